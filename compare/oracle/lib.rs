@@ -1,0 +1,51 @@
+//! The oracle: what document 01 says that a record or a listing prints.
+//!
+//! The text of an accepted record is not written here. It comes out of document 000
+//! (`src/protected_mode/display/masm.rs`), which is compiled in place and unchanged from the folder
+//! that the build variable `MASM_SRC` names. This crate supplies what 000 imports, puts document
+//! 01's refusals in front of it, and adds what 000 has not: mode 1 and the listing.
+//!
+//! - `shim`: the items that 000 imports, small, with document 01's choices where 000 leaves one out
+//! - `opcodes`: the 154 numbered opcodes, and those that 000 names beside them
+//! - `record`: a body's fields, answers 2 and 3
+//! - `refusals`: answers 4 and 5, from document 01's lists and never from 000
+//! - `print`: one record's answer and line in both modes
+//! - `listing`: frames and lines
+
+mod listing;
+mod opcodes;
+mod print;
+pub mod record;
+mod refusals;
+mod shim;
+
+pub use listing::{listing_into, MAX_LISTING};
+pub use opcodes::name_of;
+pub use print::{line_into, unguarded_line, Complaint, Sink};
+pub use record::{Record, Slot};
+
+/// The stand-in for the crate `yaxpeax_arch`, under the name that 000 imports it by.
+pub(crate) use shim::arch as yaxpeax_arch;
+
+/// The stand-in for the crate's own module of that name.
+pub(crate) mod protected_mode {
+    pub(crate) use crate::opcodes::Opcode;
+    pub(crate) use crate::shim::{
+        DisplayRules, Instruction, MergeMode, Operand, OperandSpec, OperandVisitor, RegSpec,
+        RegisterBank, SaeMode,
+    };
+
+    pub(crate) mod display {
+        pub(crate) use crate::shim::DisplaySinkExt;
+
+        /// Document 000, unchanged. Its warnings are its own affair.
+        #[allow(warnings, clippy::all)]
+        pub(crate) mod masm {
+            use crate::yaxpeax_arch;
+            include!(concat!(
+                env!("MASM_SRC"),
+                "/src/protected_mode/display/masm.rs"
+            ));
+        }
+    }
+}

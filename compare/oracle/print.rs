@@ -1,0 +1,93 @@
+//! One record: its answer and, if it is printed, its line in either mode.
+
+use crate::protected_mode::display::masm::contextualize;
+use crate::record::Record;
+use crate::refusals::{shape_refused, size_refused};
+use crate::shim::arch::display::DisplaySink;
+use crate::shim::{Instruction, NoRules};
+use core::fmt;
+use std::panic::{catch_unwind, AssertUnwindSafe};
+
+/// What must never be silent: 000 cannot print a record that document 01 accepts.
+#[derive(Clone, Debug, PartialEq, Eq)]
+pub struct Complaint(pub String);
+
+/// A text that grows. 000 writes through it.
+#[derive(Default)]
+pub struct Sink(pub Vec<u8>);
+
+impl fmt::Write for Sink {
+    #[inline(always)]
+    fn write_str(&mut self, text: &str) -> fmt::Result {
+        self.0.extend_from_slice(text.as_bytes());
+        Ok(())
+    }
+    #[inline(always)]
+    fn write_char(&mut self, letter: char) -> fmt::Result {
+        self.0.push(letter as u8);
+        Ok(())
+    }
+}
+
+impl DisplaySink for Sink {}
+
+/// 000's line for a record, with no refusal in front of it, behind `out`'s bytes.
+fn run_000(record: &Record, out: &mut Sink) -> Result<(), Complaint> {
+    let instruction = Instruction::of(record);
+    catch_unwind(AssertUnwindSafe(|| contextualize(&instruction, &NoRules, out)))
+        .map_err(|why| {
+            let said = why.downcast_ref::<String>().cloned();
+            let said = said.or_else(|| why.downcast_ref::<&str>().map(|said| said.to_string()));
+            Complaint(said.unwrap_or_default())
+        })?
+        .map_err(|_| Complaint("000 returned an error".into()))
+}
+
+/// What 000 does with fields that keep the record rules, whatever answers 4 and 5 say: its line, or
+/// what it panicked with.
+pub fn unguarded_line(record: &Record) -> Result<String, Complaint> {
+    let mut out = Sink::default();
+    run_000(record, &mut out)?;
+    Ok(String::from_utf8_lossy(&out.0).into_owned())
+}
+
+/// Answer 0 and the line behind `out`'s bytes, or answer 2 to 5 and `out` as it was. The mode is 0
+/// or 1; answer 1 and answer 6 depend on the call and are the caller's.
+pub fn line_into(body: &[u8], mode: u32, out: &mut Sink) -> Result<u8, Complaint> {
+    let record = match Record::read(body) {
+        Ok(record) => record,
+        Err(answer) => return Ok(answer),
+    };
+    if shape_refused(&record) {
+        return Ok(4);
+    }
+    if size_refused(&record) {
+        return Ok(5);
+    }
+    let start = out.0.len();
+    if let Err(complaint) = run_000(&record, out) {
+        out.0.truncate(start);
+        return Err(complaint);
+    }
+    if mode == 1 && record.opcode < 22 && record.count > 0 && record.slots[0].kind == 3 {
+        straighten(&record, out);
+    }
+    Ok(0)
+}
+
+/// Mode 1's only difference: the sum of an 8-bit distance and the length is kept whole. 000's line
+/// for such a record ends in `$`, a sign and a numeral, and has no other `$`.
+fn straighten(record: &Record, out: &mut Sink) {
+    let dollar = out.0.iter().rposition(|&byte| byte == b'$').expect("a branch has a `$`");
+    out.0.truncate(dollar + 1);
+    let sum = record.imm as i8 as i32 + record.length as i32;
+    out.0.push(if sum < 0 { b'-' } else { b'+' });
+    let digits = format!("{:X}", sum.unsigned_abs());
+    if digits.as_bytes()[0] > b'9' {
+        out.0.push(b'0');
+    }
+    out.0.extend_from_slice(digits.as_bytes());
+    if sum.unsigned_abs() > 9 {
+        out.0.push(b'h');
+    }
+}

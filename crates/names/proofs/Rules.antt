@@ -1,0 +1,86 @@
+-- Each table keeps its rule, by one computed test, and what that says of each entry.
+-- Assumes nothing.
+use mathlib.Core.Path.{_≡_}
+use mathlib.Core.Bool.{not, _&&_}
+use mathlib.Core.List.{List, []}
+use Prim.Native.Nat.{ℕ, _<_}
+use native.Mathlib.Nat.{lt-trans}
+use lib.Dec.{T, leb}
+use lib.ListN.{length, getD}
+use Rattle.text.specs.Words.{every, ascend, distinct, empty, starts}
+use Rattle.text.proofs.Tables.{both-left, both-right, every-at, distinct-at}
+use Rattle.names.specs.Mnemonics.{mnemonics, mnemonic}
+use Rattle.names.specs.Registers.{segments, registers, registerName}
+use Rattle.names.specs.Words.{labels, prefixes}
+use Rattle.names.specs.Rules.{letter, registerLetter, nameOf, namesRule, registersRule}
+
+-- the tables
+
+pub mnemonics-keep : T (namesRule 13 mnemonics)
+unfolding namesRule mnemonics
+mnemonics-keep = tt
+
+pub labels-keep : T (namesRule 7 labels)
+unfolding namesRule labels
+labels-keep = tt
+
+pub prefixes-keep : T (namesRule 8 prefixes)
+unfolding namesRule prefixes
+prefixes-keep = tt
+
+pub registers-keep : T (registersRule registers)
+unfolding registersRule registers
+registers-keep = tt
+
+pub segments-keep : T (registersRule segments)
+unfolding registersRule segments
+segments-keep = tt
+
+-- at each entry of a table of names
+module _ (n : ℕ) (words : List (List ℕ)) (keep : T (namesRule n words)) where
+  names-tested : T (every (nameOf n) words)
+  unfolding namesRule
+  names-tested =
+      both-right (ascend (starts 0 words)) (every (nameOf n) words)
+      (both-left (ascend (starts 0 words) && every (nameOf n) words) (distinct words) keep)
+
+  -- a name is there, has allowed letters alone, and is no longer than n
+  pub name-kept : (k : ℕ) → k < length words → T (nameOf n (getD words k []))
+  name-kept k h = every-at (nameOf n) [] words names-tested k h
+
+  pub name-some : (k : ℕ) → k < length words → T (not (empty (getD words k [])))
+  name-some k h =
+      let w = getD words k [] in
+      both-left (not (empty w)) (every letter w) (both-left (not (empty w) && every letter w) (leb (length w) n) (name-kept k h))
+
+  pub name-letters : (k : ℕ) → k < length words → T (every letter (getD words k []))
+  name-letters k h =
+      let w = getD words k [] in
+      both-right (not (empty w)) (every letter w) (both-left (not (empty w) && every letter w) (leb (length w) n) (name-kept k h))
+
+  -- the names at two places differ
+  pub name-alone : (j k : ℕ) → j < k → k < length words → getD words j [] ≡ getD words k [] → ⊥
+  unfolding namesRule
+  name-alone j k l h e =
+      distinct-at words (both-right (ascend (starts 0 words) && every (nameOf n) words) (distinct words) keep) j k l h
+      (name-some j (lt-trans l h)) e
+
+-- the mnemonic of each opcode
+pub mnemonic-some : (k : ℕ) → k < 154 → T (not (empty (mnemonic k)))
+unfolding mnemonic mnemonics
+mnemonic-some k h = name-some 13 mnemonics mnemonics-keep k h
+
+pub mnemonic-letters : (k : ℕ) → k < 154 → T (every letter (mnemonic k))
+unfolding mnemonic mnemonics
+mnemonic-letters k h = name-letters 13 mnemonics mnemonics-keep k h
+
+-- two opcodes have two names
+pub mnemonic-alone : (j k : ℕ) → j < k → k < 154 → mnemonic j ≡ mnemonic k → ⊥
+unfolding mnemonic mnemonics
+mnemonic-alone j k l h e = name-alone 13 mnemonics mnemonics-keep j k l h e
+
+-- two registers have two names
+pub register-alone : (j k : ℕ) → j < k → k < 64 → T (not (empty (registerName j))) → registerName j ≡ registerName k → ⊥
+unfolding registerName registersRule registers
+register-alone j k l h some e =
+    distinct-at registers (both-right (every (every registerLetter) registers) (distinct registers) registers-keep) j k l h some e

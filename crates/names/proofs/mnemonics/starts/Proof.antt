@@ -1,0 +1,13 @@
+-- `names::mnemonics::starts` meets its contract: the table is what the words make, by computation.
+-- Assumes nothing.
+use mathlib.Core.Path.{refl}
+use Rattle.names.proofs.mnemonics.starts.Statement.{statement}
+use Rattle.names.proofs.mnemonics.starts.Tie as tie
+use Rattle.names.specs.Mnemonics.{mnemonics}
+
+returns : tie.Need-returns
+unfolding mnemonics
+returns c = refl
+
+pub starts-spec : {M : Type 1} → statement M
+starts-spec = tie.close (tie.spec returns)

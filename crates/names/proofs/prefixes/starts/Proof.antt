@@ -1,0 +1,13 @@
+-- `names::prefixes::starts` meets its contract: the table is what the words make, by computation.
+-- Assumes nothing.
+use mathlib.Core.Path.{refl}
+use Rattle.names.proofs.prefixes.starts.Statement.{statement}
+use Rattle.names.proofs.prefixes.starts.Tie as tie
+use Rattle.names.specs.Words.{prefixes}
+
+returns : tie.Need-returns
+unfolding prefixes
+returns c = refl
+
+pub starts-spec : {M : Type 1} → statement M
+starts-spec = tie.close (tie.spec returns)

@@ -1,0 +1,35 @@
+-- Register and segment names, by document 01's register bytes: "A register byte is 8 times bank plus number".
+-- Assumes nothing.
+use mathlib.Core.List.{List, [], _∷_, _++_}
+use Prim.Native.Nat.{ℕ}
+use lib.ListN.{getD}
+use Rattle.text.specs.Words.{bytes}
+
+-- bank 3
+abbrev pub bank3 : List (List ℕ)
+bank3 = bytes "es" ∷ bytes "cs" ∷ bytes "ss" ∷ bytes "ds" ∷ bytes "fs" ∷ bytes "gs" ∷ []
+
+-- the banks 0 to 7; "Bytes 30, 31 .. are no register"
+unfoldable pub registers : List (List ℕ)
+registers =
+    bytes "eax" ∷ bytes "ecx" ∷ bytes "edx" ∷ bytes "ebx" ∷ bytes "esp" ∷ bytes "ebp" ∷ bytes "esi" ∷ bytes "edi" ∷
+    bytes "ax" ∷ bytes "cx" ∷ bytes "dx" ∷ bytes "bx" ∷ bytes "sp" ∷ bytes "bp" ∷ bytes "si" ∷ bytes "di" ∷
+    bytes "al" ∷ bytes "cl" ∷ bytes "dl" ∷ bytes "bl" ∷ bytes "ah" ∷ bytes "ch" ∷ bytes "dh" ∷ bytes "bh" ∷
+    (bank3 ++ ([] ∷ [] ∷
+    bytes "st(0)" ∷ bytes "st(1)" ∷ bytes "st(2)" ∷ bytes "st(3)" ∷ bytes "st(4)" ∷ bytes "st(5)" ∷ bytes "st(6)" ∷ bytes "st(7)" ∷
+    bytes "mm0" ∷ bytes "mm1" ∷ bytes "mm2" ∷ bytes "mm3" ∷ bytes "mm4" ∷ bytes "mm5" ∷ bytes "mm6" ∷ bytes "mm7" ∷
+    bytes "xmm0" ∷ bytes "xmm1" ∷ bytes "xmm2" ∷ bytes "xmm3" ∷ bytes "xmm4" ∷ bytes "xmm5" ∷ bytes "xmm6" ∷ bytes "xmm7" ∷
+    bytes "ymm0" ∷ bytes "ymm1" ∷ bytes "ymm2" ∷ bytes "ymm3" ∷ bytes "ymm4" ∷ bytes "ymm5" ∷ bytes "ymm6" ∷ bytes "ymm7" ∷
+    []))
+
+-- the name of a register byte; "64 up are no register"
+unfoldable pub registerName : ℕ → List ℕ
+registerName reg = getD registers reg []
+
+-- "0 for none or 1 to 6 for es cs ss ds fs gs"
+unfoldable pub segments : List (List ℕ)
+segments = [] ∷ bank3
+
+-- the name of a segment number
+unfoldable pub segmentName : ℕ → List ℕ
+segmentName segment = getD segments segment []

@@ -1,0 +1,82 @@
+// What a record says and what a line shows, by value: the types that every crate above shares. An operand is a case; a memory
+// case holds its own base, index and scale. What a line shows never comes from text.
+pub mod kinds;
+
+// A bracket's own registers, scale and displacement. A part that the record's kind does not have is false and 0.
+pub struct Address {
+    pub disp: i32,
+    pub base: u8,
+    pub index: u8,
+    pub scale: u8,
+    pub based: bool,
+    pub indexed: bool,
+    pub displaced: bool,
+}
+
+// An operand as the record has it. `Absent` is an operand at or past the count. `place` is 1 for the R place and 2 for the M
+// place; an immediate keeps its kind, 3 to 8, and its value as 32 bits, extended where the kind is signed.
+pub enum Operand {
+    Absent,
+    Register { place: u8, reg: u8 },
+    Imm { kind: u8, value: u32 },
+    Absolute16 { segment: u8, address: u16 },
+    Absolute32 { segment: u8, address: u32 },
+    Memory { segment: u8, address: Address },
+}
+
+// An accepted record.
+pub struct Instruction {
+    pub opcode: u16,
+    pub flags: u8,
+    pub length: u8,
+    pub size: u8,
+    pub imm: u32,
+    pub a: Operand,
+    pub b: Operand,
+    pub c: Operand,
+    pub d: Operand,
+}
+
+// The size word before a memory operand. `Missing`: a label is called for and there is none.
+pub enum Label {
+    None,
+    Byte,
+    Word,
+    Dword,
+    Qword,
+    Xmmword,
+    Ymmword,
+    Zmmword,
+    Mmword,
+    Fword,
+    Tbyte,
+    Missing,
+}
+
+// What stands behind label and segment: nothing at all, a register by its byte, `st`, an immediate, an absolute of 4 or of 8
+// digits, a bracket, or a branch from `$`.
+pub enum Shown {
+    Nothing,
+    Name(u8),
+    St,
+    Number(u32),
+    Word(u16),
+    Dword(u32),
+    Bracket(Address),
+    Branch { near: bool, minus: bool, size: u32 },
+}
+
+// One operand of a line. A segment of 0 is not shown.
+pub struct Item {
+    pub label: Label,
+    pub segment: u8,
+    pub shown: Shown,
+}
+
+// The operands of a line, from the left.
+pub struct Items {
+    pub a: Item,
+    pub b: Item,
+    pub c: Item,
+    pub d: Item,
+}

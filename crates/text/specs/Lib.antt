@@ -1,0 +1,3 @@
+-- What it means to write a text into a lent buffer, and what a table of words is. Definitions only: the laws are in proofs/.
+pub mod Write
+pub mod Words

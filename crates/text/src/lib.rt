@@ -1,0 +1,27 @@
+// Writing a text into a lent buffer: the one way in which every crate of the printer stores bytes; and words of a table.
+ghost use mathlib.Core.List.{[], _∷_};
+ghost use Rattle.text.specs.Write.{Room, Put};
+
+pub mod words;
+
+// One byte at a place.
+pub fn put_byte(buf: &mut [u8], at: usize, b: u8) -> usize
+    requires { ⌜ Room (now buf) at (b ∷ []) ⌝ }
+    ensures { λ r. ⌜ Put (now (buf .entry)) at (b ∷ []) r (now (buf .exit)) ⌝ }
+{
+    buf[at] = b;
+    at + 1
+}
+
+// A text at a place.
+pub fn put_bytes(buf: &mut [u8], at: usize, t: &[u8]) -> usize
+    requires { ⌜ Room (now buf) at (now t) ⌝ }
+    ensures { λ r. ⌜ Put (now (buf .entry)) at (now (t .entry)) r (now (buf .exit)) ⌝ }
+{
+    let mut i = 0;
+    while i < t.len() {
+        buf[at + i] = t[i];
+        i += 1;
+    }
+    at + i
+}
