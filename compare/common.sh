@@ -83,22 +83,26 @@ wrapper() {
         printf '#!/bin/sh\nexec'
         for word in "$@"; do printf " '%s'" "$word"; done
         printf '\n'
-    } >"$out/bin/$name"
-    chmod +x "$out/bin/$name"
+    } >"$bin/$name"
+    chmod +x "$bin/$name"
 }
 
 # The C host over the archive, and the listing programs: scripts in target/compare/bin that run them,
-# under the emulator where it takes one.
+# under the emulator where it takes one. `bin` is the folder of such scripts.
 build_host() {
-    mkdir -p "$out/bin" "$out/host"
     emulated=
     if [ -n "${COMPARE_STANDIN:-}" ]; then
-        cc -O2 -fno-builtin -o "$out/host/host" "$here/host/driver.c" "$COMPARE_STANDIN/libhost.a" -lpthread -ldl -lm ||
+        # beside the stand-in, so that two of them can be compared at a time
+        bin=$COMPARE_STANDIN/bin
+        mkdir -p "$bin"
+        cc -O2 -fno-builtin -o "$COMPARE_STANDIN/host" "$here/host/driver.c" "$COMPARE_STANDIN/libhost.a" -lpthread -ldl -lm ||
             die "the host does not link to the stand-in"
-        wrapper host "$out/host/host"
+        wrapper host "$COMPARE_STANDIN/host"
         wrapper list_crate "$COMPARE_STANDIN/list_crate"
         wrapper list_straight "$COMPARE_STANDIN/list_straight"
     else
+        bin=$out/bin
+        mkdir -p "$bin" "$out/host"
         archive=$root/target/staticlib/libhost.a
         [ -f "$archive" ] || die "there is no target/staticlib/libhost.a: run rt staticlib host"
         for name in list_crate list_straight; do
@@ -127,9 +131,9 @@ build_host() {
             fi
         done
     fi
-    COMPARE_HOST=$out/bin/host
-    COMPARE_LIST_CRATE=$out/bin/list_crate
-    COMPARE_LIST_STRAIGHT=$out/bin/list_straight
+    COMPARE_HOST=$bin/host
+    COMPARE_LIST_CRATE=$bin/list_crate
+    COMPARE_LIST_STRAIGHT=$bin/list_straight
     export COMPARE_HOST COMPARE_LIST_CRATE COMPARE_LIST_STRAIGHT
 }
 

@@ -11,16 +11,28 @@
 //! - `refusals`: answers 4 and 5, from document 01's lists and never from 000
 //! - `print`: one record's answer and line in both modes
 //! - `listing`: frames and lines
+//! - `fast`: the same for the benchmark, into a lent buffer; it needs only `core` (`--cfg bare`)
 
+#![cfg_attr(bare, no_std)]
+
+mod fast;
+#[cfg(not(bare))]
 mod listing;
 mod opcodes;
+#[cfg(not(bare))]
 mod print;
 pub mod record;
 mod refusals;
 mod shim;
 
-pub use listing::{listing_into, MAX_LISTING};
+/// The listing entry's limit, the version byte counted. The programs have none.
+pub const MAX_LISTING: usize = 16_777_216;
+
+pub use fast::{print_listing, print_record};
+#[cfg(not(bare))]
+pub use listing::listing_into;
 pub use opcodes::name_of;
+#[cfg(not(bare))]
 pub use print::{line_into, unguarded_line, Complaint, Sink};
 pub use record::{Record, Slot};
 

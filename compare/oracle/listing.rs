@@ -2,9 +2,6 @@
 
 use crate::print::{line_into, Complaint, Sink};
 
-/// The entry point's limit, the version byte counted. The programs have none.
-pub const MAX_LISTING: usize = 16_777_216;
-
 /// The whole listing's lines, behind `out`'s bytes. A complaint names the record's body.
 pub fn listing_into(listing: &[u8], mode: u32, out: &mut Sink) -> Result<(), (Complaint, Vec<u8>)> {
     let mut rest = match listing.split_first() {

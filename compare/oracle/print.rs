@@ -1,5 +1,6 @@
 //! One record: its answer and, if it is printed, its line in either mode.
 
+use crate::fast::{is_short_branch, straight_sum};
 use crate::protected_mode::display::masm::contextualize;
 use crate::record::Record;
 use crate::refusals::{shape_refused, size_refused};
@@ -69,7 +70,7 @@ pub fn line_into(body: &[u8], mode: u32, out: &mut Sink) -> Result<u8, Complaint
         out.0.truncate(start);
         return Err(complaint);
     }
-    if mode == 1 && record.opcode < 22 && record.count > 0 && record.slots[0].kind == 3 {
+    if mode == 1 && is_short_branch(&record) {
         straighten(&record, out);
     }
     Ok(0)
@@ -80,14 +81,5 @@ pub fn line_into(body: &[u8], mode: u32, out: &mut Sink) -> Result<u8, Complaint
 fn straighten(record: &Record, out: &mut Sink) {
     let dollar = out.0.iter().rposition(|&byte| byte == b'$').expect("a branch has a `$`");
     out.0.truncate(dollar + 1);
-    let sum = record.imm as i8 as i32 + record.length as i32;
-    out.0.push(if sum < 0 { b'-' } else { b'+' });
-    let digits = format!("{:X}", sum.unsigned_abs());
-    if digits.as_bytes()[0] > b'9' {
-        out.0.push(b'0');
-    }
-    out.0.extend_from_slice(digits.as_bytes());
-    if sum.unsigned_abs() > 9 {
-        out.0.push(b'h');
-    }
+    straight_sum(record, out).expect("the sink takes all");
 }

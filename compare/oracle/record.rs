@@ -106,6 +106,7 @@ impl Record {
     }
 
     /// The body that holds these fields, the first `count` slots in it.
+    #[cfg(not(bare))]
     pub fn body(&self) -> Vec<u8> {
         let mut body = Vec::with_capacity(34);
         body.extend(self.opcode.to_be_bytes());

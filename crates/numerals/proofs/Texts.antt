@@ -1,33 +1,31 @@
 -- Laws of the texts: their lengths.
 -- Assumes nothing.
 use mathlib.Core.Path.{_≡_, refl, sym, ap, _∙_}
-use mathlib.Core.Bool.{Bool, true, false}
+use mathlib.Core.Bool.{Bool}
 use mathlib.Core.List.{List, [], _∷_, _++_}
 use Prim.Native.Nat.{ℕ, _+_, _≤_}
 use native.Mathlib.Omega.{arith}
 use lib.IntN.{ℤ, pos, negsuc, natAbs}
 use lib.Dec.{leb}
 use lib.ListN.{length, length-append}
+use Rattle.text.specs.Choice.{pick, when}
 use Rattle.text.specs.Words.{bytes}
-use Rattle.numerals.specs.Digits.{pick, digits, places, top, TopOf}
-use Rattle.numerals.specs.Numerals.{when, needsLeading0, hexAmbiguous, figure, numeral, sign, displacement, absolute}
+use Rattle.text.proofs.Choosing.{length-when}
+use Rattle.numerals.specs.Digits.{digits, places, top, TopOf}
+use Rattle.numerals.specs.Numerals.{needsLeading0, hexAmbiguous, figure, numeral, sign, displacement, absolute}
 use Rattle.numerals.proofs.Places.{length-digits}
-
-pub length-when : (wanted : Bool) (b : ℕ) → length (when wanted (b ∷ [])) ≡ pick wanted 1 0
-length-when true b = refl
-length-when false b = refl
 
 pub length-figure : (k v : ℕ) → length (figure k v) ≡ pick (needsLeading0 k v) 1 0 + k
 unfolding figure
 length-figure k v =
     length-append (when (needsLeading0 k v) (bytes "0")) (digits k v)
-    ∙ rw (length-when (needsLeading0 k v) 48, length-digits k v)
+    ∙ rw (length-when (needsLeading0 k v) (bytes "0"), length-digits k v)
 
 pub length-numeral : (v : ℕ) → length (numeral v) ≡ pick (needsLeading0 (places v) v) 1 0 + places v + pick (hexAmbiguous v) 1 0
 unfolding numeral
 length-numeral v =
     length-append (figure (places v) v) (when (hexAmbiguous v) (bytes "h"))
-    ∙ rw (length-figure (places v) v, length-when (hexAmbiguous v) 104)
+    ∙ rw (length-figure (places v) v, length-when (hexAmbiguous v) (bytes "h"))
 
 pub length-absolute : (k v : ℕ) → length (absolute k v) ≡ pick (needsLeading0 k v) 1 0 + k + 1
 unfolding absolute
@@ -40,13 +38,6 @@ length-sign (negsuc n) = refl
 pub length-displacement : (d : ℤ) → length (displacement d) ≡ 2 + length (numeral (natAbs d))
 unfolding displacement
 length-displacement d = length-append (sign d) (numeral (natAbs d)) ∙ rw (length-sign d)
-
--- a text that is called for, and one that is not
-pub when-wanted : (t : List ℕ) {wanted : Bool} → wanted ≡ true → when wanted t ≡ t
-when-wanted t e = rw e
-
-pub when-not : (t : List ℕ) {wanted : Bool} → wanted ≡ false → when wanted t ≡ []
-when-not t e = rw e
 
 -- a figure by its top digit
 pub figure-by : (k v : ℕ) {digit : ℕ} → digit ≡ top k v → figure k v ≡ when (leb 10 digit) (bytes "0") ++ digits k v

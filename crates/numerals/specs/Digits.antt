@@ -1,14 +1,10 @@
 -- Hexadecimal digits by place value.
 -- Assumes nothing.
 use mathlib.Core.Path.{_≡_}
-use mathlib.Core.Bool.{Bool, true, false}
 use mathlib.Core.List.{List, [], _∷_, _++_}
 use Prim.Native.Nat.{ℕ, zero, suc, _+_, _-_, _/_, _%_, _^_, _≤_}
 use lib.Dec.{ltb}
-
-abbrev pub pick : {A : Type 0} → Bool → A → A → A
-pick true a b = a
-pick false a b = b
+use Rattle.text.specs.Choice.{pick}
 
 -- "upper-case hex": the digit of a number below 16, 0 to 9 and then A to F
 unfoldable pub digit : ℕ → ℕ

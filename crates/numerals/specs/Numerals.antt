@@ -1,16 +1,13 @@
 -- Numerals, displacements and absolutes, as document 01's section "Numbers and brackets" has them.
 -- Assumes nothing.
 use mathlib.Core.Bool.{Bool}
-use mathlib.Core.List.{List, [], _∷_, _++_}
+use mathlib.Core.List.{List, _++_}
 use Prim.Native.Nat.{ℕ}
 use lib.Dec.{ltb, leb}
 use lib.IntN.{ℤ, pos, negsuc, natAbs}
+use Rattle.text.specs.Choice.{when}
 use Rattle.text.specs.Words.{bytes}
-use Rattle.numerals.specs.Digits.{pick, digits, places, top}
-
--- a text that stands only where it is called for
-abbrev pub when : Bool → List ℕ → List ℕ
-when wanted t = pick wanted t []
+use Rattle.numerals.specs.Digits.{digits, places, top}
 
 -- "a 0 in front when the top digit is A to F", of k digits
 abbrev pub needsLeading0 : ℕ → ℕ → Bool

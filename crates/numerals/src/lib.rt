@@ -1,5 +1,5 @@
 // Numbers as text: document 01's numerals, displacements and absolutes.
 pub mod absolute;
-mod digits;
+pub mod digits;
 pub mod displacement;
 pub mod numeral;

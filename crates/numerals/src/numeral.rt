@@ -1,25 +1,13 @@
 // The numeral of a number of 32 bits.
 ghost use mathlib.Core.Path.{_≡_};
-ghost use mathlib.Core.List.{[], _∷_};
 ghost use Prim.Native.Nat.{_+_, _≤_};
 ghost use lib.Dec.{leb};
 ghost use lib.ListN.{length};
 ghost use Rattle.text.specs.Write.{Room, Put};
-ghost use Rattle.numerals.specs.Digits.{pick, top};
-ghost use Rattle.numerals.specs.Numerals.{when, figure, hexAmbiguous, numeral as numeralOf};
+ghost use Rattle.text.specs.Choice.{pick};
+ghost use Rattle.numerals.specs.Digits.{top};
+ghost use Rattle.numerals.specs.Numerals.{figure, hexAmbiguous, numeral as numeralOf};
 use crate::digits;
-
-// A byte where it is called for, else nothing.
-pub fn put_when(buf: &mut [u8], at: usize, wanted: bool, b: u8) -> usize
-    requires { ⌜ Room (now buf) at (when wanted (b ∷ [])) ⌝ }
-    ensures { λ r. ⌜ Put (now (buf .entry)) at (when wanted (b ∷ [])) r (now (buf .exit)) ⌝ }
-{
-    if wanted {
-        text::put_byte(buf, at, b)
-    } else {
-        at
-    }
-}
 
 // k digits, with a 0 in front where the top one is a letter: the one place where numerals and absolutes meet.
 pub fn put_figure(buf: &mut [u8], at: usize, k: usize, digit: u32, v: u32) -> usize
@@ -27,7 +15,7 @@ pub fn put_figure(buf: &mut [u8], at: usize, k: usize, digit: u32, v: u32) -> us
     requires { ⌜ Room (now buf) at (figure k v) ⌝ }
     ensures { λ r. ⌜ Put (now (buf .entry)) at (figure k v) r (now (buf .exit)) ⌝ }
 {
-    let next = put_when(buf, at, 10 <= digit, b'0');
+    let next = text::put_when(buf, at, 10 <= digit, b"0");
     digits::put_digits(buf, next, k, v)
 }
 
@@ -44,15 +32,7 @@ pub fn put_numeral(buf: &mut [u8], at: usize, v: u32) -> usize
 {
     let t = digits::top_of(v);
     let next = put_figure(buf, at, t.places, t.digit, v);
-    put_when(buf, next, hex_ambiguous(v), b'h')
-}
-
-// How long a byte is that stands only where it is called for.
-fn when_length(wanted: bool) -> usize
-    ensures { λ r. ⌜ r ≡ pick wanted 1 0 ⌝ }
-    ensures { λ r. ⌜ r ≤ 1 ⌝ }
-{
-    if wanted { 1 } else { 0 }
+    text::put_when(buf, next, hex_ambiguous(v), b"h")
 }
 
 // How long k digits are, by the top one.
@@ -61,7 +41,7 @@ pub fn figure_length(k: usize, digit: u32) -> usize
     ensures { λ r. ⌜ r ≡ pick (leb 10 digit) 1 0 + k ⌝ }
     ensures { λ r. ⌜ r ≤ k + 1 ⌝ }
 {
-    when_length(10 <= digit) + k
+    text::length_when(10 <= digit, 1) + k
 }
 
 pub fn numeral_length(v: u32) -> usize
@@ -69,5 +49,5 @@ pub fn numeral_length(v: u32) -> usize
     ensures { λ r. ⌜ r ≤ 10 ⌝ }
 {
     let t = digits::top_of(v);
-    figure_length(t.places, t.digit) + when_length(hex_ambiguous(v))
+    figure_length(t.places, t.digit) + text::length_when(hex_ambiguous(v), 1)
 }

@@ -1,3 +1,4 @@
+pub mod Choosing
 pub mod Writing
 pub mod Putting
 pub mod Tables

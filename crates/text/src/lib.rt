@@ -1,5 +1,8 @@
 // Writing a text into a lent buffer: the one way in which every crate of the printer stores bytes; and words of a table.
+ghost use mathlib.Core.Path.{_≡_};
 ghost use mathlib.Core.List.{[], _∷_};
+ghost use Prim.Native.Nat.{_≤_};
+ghost use Rattle.text.specs.Choice.{pick, when};
 ghost use Rattle.text.specs.Write.{Room, Put};
 
 pub mod words;
@@ -24,4 +27,20 @@ pub fn put_bytes(buf: &mut [u8], at: usize, t: &[u8]) -> usize
         i += 1;
     }
     at + i
+}
+
+// A text at a place, where it is called for.
+pub fn put_when(buf: &mut [u8], at: usize, wanted: bool, t: &[u8]) -> usize
+    requires { ⌜ Room (now buf) at (when wanted (now t)) ⌝ }
+    ensures { λ r. ⌜ Put (now (buf .entry)) at (when wanted (now (t .entry))) r (now (buf .exit)) ⌝ }
+{
+    if wanted { put_bytes(buf, at, t) } else { at }
+}
+
+// The length of one that stands only where it is called for.
+pub fn length_when(wanted: bool, t: usize) -> usize
+    ensures { λ r. ⌜ r ≡ pick wanted t 0 ⌝ }
+    ensures { λ r. ⌜ r ≤ t ⌝ }
+{
+    if wanted { t } else { 0 }
 }

@@ -15,8 +15,8 @@ figure-length-requires c κs = search needs
 hex-ambiguous-requires : tie.Need-hex-ambiguous-requires
 hex-ambiguous-requires c κs = search needs
 
-when-length-requires : tie.Need-when-length-requires
-when-length-requires c κs = search needs
+length-when-requires : tie.Need-length-when-requires
+length-when-requires c κs = search needs
 
 add-result : tie.Need-add-result
 add-result c = search needs
@@ -31,6 +31,6 @@ numeral-length-spec =
     top-of-requires
     figure-length-requires
     hex-ambiguous-requires
-    when-length-requires
+    length-when-requires
     add-result
     returns)

@@ -1,5 +1,5 @@
-//! `oracle MODE`: a listing on standard input, its lines on standard output.
-//! `oracle record HEX`: one body in hex; its answer and its line in both modes, and what 000 would
+//! `ask 0` or `ask 1`, a mode: a listing on standard input, its lines on standard output.
+//! `ask record HEX`: one body in hex; its answer and its line in both modes, and what 000 would
 //! do with it if nothing were refused.
 
 use oracle::{line_into, listing_into, unguarded_line, Record, Sink};
@@ -17,7 +17,7 @@ fn main() {
             None => exit(2),
         },
         _ => {
-            eprintln!("use: oracle 0, oracle 1 or oracle record HEX");
+            eprintln!("use: ask 0, ask 1 or ask record HEX");
             exit(2);
         }
     }

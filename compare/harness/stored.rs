@@ -1,0 +1,135 @@
+//! `stored FOLDER`: writes FOLDER/list_crate and FOLDER/list_straight, each with the files `stdin` and
+//! `stdout` that the gate runs a listing program on. `stored FOLDER check`: says whether the files
+//! there are these.
+//!
+//! The listing, in order: document 01's lines; three records of each opcode that keep the rules;
+//! 6,000 records of the generator with seed 154; frames up to the longest, which is longer than the
+//! programs' buffer; a few records behind them; and an end inside a frame, which prints `; cut`.
+
+use oracle::{line_into, listing_into, Record, Sink, Slot};
+use records::Random;
+use std::path::Path;
+
+const SEED: u64 = 154;
+const RECORDS: usize = 6000;
+
+fn main() {
+    let words: Vec<String> = std::env::args().skip(1).collect();
+    let Some(folder) = words.first() else {
+        eprintln!("use: stored FOLDER [check]");
+        std::process::exit(2);
+    };
+    let check = words.get(1).is_some_and(|word| word == "check");
+    let listing = listing();
+    let mut same = true;
+    for (mode, program) in [(0, "list_crate"), (1, "list_straight")] {
+        let mut text = Sink::default();
+        listing_into(&listing, mode, &mut text).expect("000 prints what document 01 accepts");
+        let place = Path::new(folder).join(program);
+        for (file, bytes) in [("stdin", &listing), ("stdout", &text.0)] {
+            let file = place.join(file);
+            if check {
+                let agrees = std::fs::read(&file).is_ok_and(|stored| stored == *bytes);
+                println!("{}  {}", if agrees { "same   " } else { "DIFFERS" }, file.display());
+                same &= agrees;
+            } else {
+                std::fs::create_dir_all(&place).expect("the folder can be made");
+                std::fs::write(&file, bytes).expect("the file can be written");
+                println!("{:>7} bytes  {}", bytes.len(), file.display());
+            }
+        }
+        summary(&text.0, mode);
+    }
+    std::process::exit(if same { 0 } else { 1 })
+}
+
+fn listing() -> Vec<u8> {
+    let mut bodies = documented();
+    let mut random = Random::new(SEED);
+    let mut owed = [3; 154];
+    while owed.iter().any(|&count| count > 0) {
+        let body = records::sound_body(&mut random);
+        let owed = &mut owed[u16::from_be_bytes([body[0], body[1]]) as usize];
+        if *owed > 0 && line_into(&body, 0, &mut Sink::default()) == Ok(0) {
+            *owed -= 1;
+            bodies.push(body);
+        }
+    }
+    while bodies.len() < RECORDS {
+        let body = records::body(&mut random);
+        // the long ones are chosen below
+        if body.len() < 1000 {
+            bodies.push(body);
+        }
+    }
+    let some: Vec<Vec<u8>> = bodies[..40].to_vec();
+    for length in [1284, 1289, 1290, 65_535, 40_000, 65_534] {
+        // a count of 255 with as many operands as it says is as long as 1,289 bytes
+        let mut body = vec![0; length];
+        body[3] = 1;
+        body[13] = ((length - 14) / 5).min(255) as u8;
+        bodies.push(body);
+        bodies.extend_from_slice(&some);
+    }
+    let mut listing = vec![1];
+    for body in &bodies {
+        listing.extend((body.len() as u16).to_be_bytes());
+        listing.extend_from_slice(body);
+    }
+    // the end: a frame of nineteen bytes that has seven
+    listing.extend([0, 19, 0, 0, 0, 5, 0, 0, 0]);
+    listing
+}
+
+/// The records of document 01's "lines to compare".
+fn documented() -> Vec<Vec<u8>> {
+    let slot = |kind, segment, first| Slot { kind, segment, first, ..Slot::default() };
+    let with = |opcode, length, mem_size, imm: i32, disp: i32, slots: &[Slot]| {
+        let mut record = Record {
+            opcode,
+            length,
+            mem_size,
+            imm: imm as u32,
+            disp,
+            count: slots.len() as u8,
+            ..Record::default()
+        };
+        record.slots[..slots.len()].copy_from_slice(slots);
+        record.body()
+    };
+    let mut bodies = Vec::new();
+    for disp in [i32::MIN, 9, 10, -160] {
+        bodies.push(with(23, 6, 4, 0, disp, &[slot(1, 0, 0), slot(12, 0, 0)]));
+    }
+    bodies.push(with(33, 2, 0, -1, 0, &[slot(3, 0, 0)]));
+    for distance in [125, 126] {
+        bodies.push(with(0, 2, 0, distance, 0, &[slot(3, 0, 0)]));
+    }
+    for distance in [122, 123, 250, 251, i32::MAX] {
+        bodies.push(with(0, 5, 0, distance, 0, &[slot(5, 0, 0)]));
+    }
+    for imm in [10, 266] {
+        bodies.push(with(103, 2, 0, imm, 0, &[slot(6, 0, 0)]));
+    }
+    bodies.push(with(143, 2, 0, 0, 0, &[slot(1, 0, 32), slot(2, 0, 32)]));
+    bodies.push(with(149, 2, 0, 0, 0, &[slot(2, 0, 32), slot(1, 0, 32)]));
+    bodies.push(with(39, 3, 63, 0, 0, &[slot(11, 5, 1)]));
+    bodies.push(with(65, 3, 4, 0, 0, &[slot(1, 0, 0), slot(2, 0, 10)]));
+    bodies.push(with(60, 1, 1, 0, 0, &[slot(11, 1, 7), slot(11, 4, 6)]));
+    for address in [0xabcd, 0xabc] {
+        bodies.push(with(23, 5, 4, 0, address, &[slot(1, 0, 0), slot(9, 0, 0)]));
+    }
+    for length in [15, 0, 16] {
+        bodies.push(with(80, length, 0, 0, 0, &[]));
+    }
+    bodies
+}
+
+fn summary(text: &[u8], mode: u32) {
+    let text = String::from_utf8_lossy(text);
+    let refused = |answer: u8| text.lines().filter(|line| *line == format!("; refused {answer}")).count();
+    println!(
+        "mode {mode}: {} lines, refused 2: {}, 3: {}, 4: {}, 5: {}, last line {:?}",
+        text.lines().count(), refused(2), refused(3), refused(4), refused(5), text.lines().last().unwrap_or("")
+    );
+}

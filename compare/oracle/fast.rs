@@ -1,0 +1,126 @@
+//! The listing printer made from 000 for the benchmark: refusals in front, 000 for the line, a lent
+//! buffer, no allocation. A panic is not caught here; `print` is for that.
+
+use crate::protected_mode::display::masm::contextualize;
+use crate::record::Record;
+use crate::refusals::{shape_refused, size_refused};
+use crate::shim::arch::display::DisplaySink;
+use crate::shim::{Instruction, NoRules};
+use crate::MAX_LISTING;
+use core::fmt::{self, Write};
+
+/// A lent buffer, written from `at` on. Where the buffer ends the bytes are only counted.
+struct Lent<'a> {
+    text: &'a mut [u8],
+    at: usize,
+}
+
+impl fmt::Write for Lent<'_> {
+    #[inline(always)]
+    fn write_str(&mut self, text: &str) -> fmt::Result {
+        let end = self.at + text.len();
+        if let Some(place) = self.text.get_mut(self.at..end) {
+            place.copy_from_slice(text.as_bytes());
+        }
+        self.at = end;
+        Ok(())
+    }
+    #[inline(always)]
+    fn write_char(&mut self, letter: char) -> fmt::Result {
+        if let Some(place) = self.text.get_mut(self.at) {
+            *place = letter as u8;
+        }
+        self.at += 1;
+        Ok(())
+    }
+}
+
+impl DisplaySink for Lent<'_> {}
+
+pub(crate) fn is_short_branch(record: &Record) -> bool {
+    record.opcode < 22 && record.count > 0 && record.slots[0].kind == 3
+}
+
+/// Sign and numeral of a short distance plus the length, with nothing wrapped.
+pub(crate) fn straight_sum(record: &Record, out: &mut impl fmt::Write) -> fmt::Result {
+    let sum = record.imm as i8 as i32 + record.length as i32;
+    let size = sum.unsigned_abs();
+    let top = core::iter::successors(Some(size), |&rest| (rest > 15).then_some(rest >> 4)).last();
+    write!(
+        out,
+        "{}{}{:X}{}",
+        if sum < 0 { '-' } else { '+' },
+        if top > Some(9) { "0" } else { "" },
+        size,
+        if size > 9 { "h" } else { "" },
+    )
+}
+
+/// The line, or the answer that refuses it with nothing written.
+fn line(body: &[u8], mode: u32, out: &mut Lent) -> Result<(), u64> {
+    let record = Record::read(body).map_err(u64::from)?;
+    if shape_refused(&record) {
+        return Err(4);
+    }
+    if size_refused(&record) {
+        return Err(5);
+    }
+    let start = out.at;
+    let printed = contextualize(&Instruction::of(&record), &NoRules, out);
+    printed.expect("the buffer takes all");
+    if mode == 1 && is_short_branch(&record) {
+        let line = &out.text[start..out.at];
+        out.at = start + line.iter().rposition(|&byte| byte == b'$').expect("a branch has a `$`") + 1;
+        straight_sum(&record, out).expect("the buffer takes all");
+    }
+    Ok(())
+}
+
+/// As `masm_print_record`, for a buffer with room for any line.
+pub fn print_record(body: &[u8], mode: u32, text: &mut [u8]) -> u64 {
+    let mut out = Lent { text, at: 0 };
+    match line(body, mode, &mut out) {
+        Ok(()) => out.at as u64,
+        Err(answer) => answer << 32,
+    }
+}
+
+/// As `masm_print_listing`, for a buffer with room for the text.
+pub fn print_listing(listing: &[u8], mode: u32, text: &mut [u8]) -> u64 {
+    if mode > 1 {
+        return 1 << 32;
+    }
+    if listing.len() > MAX_LISTING {
+        return 2 << 32;
+    }
+    let mut out = Lent { text, at: 0 };
+    let _ = lines(listing, mode, &mut out);
+    let answer = if out.at > out.text.len() { 6 } else { 0 };
+    answer << 32 | out.at as u64
+}
+
+fn lines(listing: &[u8], mode: u32, out: &mut Lent) -> fmt::Result {
+    let mut rest = match listing.split_first() {
+        None => return out.write_str("; cut\n"),
+        Some((1, rest)) => rest,
+        Some(_) => return out.write_str("; version\n"),
+    };
+    while !rest.is_empty() {
+        let frame = rest.split_first_chunk::<2>().and_then(|(length, behind)| {
+            behind.split_at_checked(u16::from_be_bytes(*length) as usize)
+        });
+        let Some((body, behind)) = frame else {
+            return out.write_str("; cut\n");
+        };
+        match line(body, mode, out) {
+            Ok(()) => out.write_char('\n')?,
+            Err(answer) => {
+                out.write_str("; refused ")?;
+                out.write_char((b'0' + answer as u8) as char)?;
+                out.write_char('\n')?;
+            }
+        }
+        rest = behind;
+    }
+    Ok(())
+}

@@ -1,0 +1,189 @@
+//! `decode FOLDER [i386 ELF file]..`: instructions that the published crate decodes, as records. For
+//! each, 000's line on the crate's own decoder, names, labels and segment rules is compared with the
+//! oracle's. The code is the text section of each file, and two million tries of random bytes.
+//! FOLDER gets `listing` and `lines`, for the listing program of mode 0.
+
+use oracle::{line_into, name_of, Record, Sink, Slot};
+use records::Random;
+use std::collections::{BTreeMap, HashMap};
+use std::panic::{catch_unwind, AssertUnwindSafe};
+use yaxpeax_x86::protected_mode::records::{fields, length, line};
+use yaxpeax_x86::protected_mode::{InstDecoder, Instruction};
+
+const RANDOM: usize = 2_000_000;
+
+/// The first bytes of opcodes behind prefixes and pages, which random bytes hardly ever reach.
+const RARE: [&[u8]; 17] = [
+    &[0x66, 0x0f],
+    &[0xf2, 0x0f],
+    &[0xf3, 0x0f],
+    &[0x0f, 0x01],
+    &[0x66, 0x0f, 0x01],
+    &[0xf2, 0x0f, 0x01],
+    &[0xf3, 0x0f, 0x01],
+    &[0x0f, 0x18],
+    &[0x0f, 0xae],
+    &[0x66, 0x0f, 0xae],
+    &[0xf3, 0x0f, 0xae],
+    &[0x0f, 0x38],
+    &[0x66, 0x0f, 0x38],
+    &[0x66, 0x0f, 0x38, 0x10],
+    &[0x66, 0x0f, 0x38, 0xf5],
+    &[0x66, 0x0f, 0x3a],
+    &[0xf3, 0x0f, 0x3a, 0xf0, 0xc0],
+];
+
+#[derive(Default)]
+struct Found {
+    decoded: usize,
+    no_number: usize,
+    no_record: usize,
+    /// the same by name
+    unheld: BTreeMap<String, usize>,
+    same: usize,
+    /// records of ours, by answer, where the crate's 000 panics
+    panics: BTreeMap<(u8, String), (usize, String)>,
+    /// opcode -> how often, first body, both lines
+    differ: BTreeMap<String, (usize, String, String, String)>,
+    opcodes: BTreeMap<u16, usize>,
+    listing: Vec<u8>,
+    lines: Vec<u8>,
+}
+
+fn main() {
+    std::panic::set_hook(Box::new(|_| {}));
+    let words: Vec<String> = std::env::args().skip(1).collect();
+    let numbers: HashMap<String, u16> =
+        (0..154).map(|number| (name_of(number).to_uppercase(), number)).collect();
+    let decoder = InstDecoder::default();
+    let mut found = Found { listing: vec![1], ..Found::default() };
+    for file in &words[1..] {
+        let bytes = std::fs::read(file).expect("the file can be read");
+        let code = text_section(&bytes).expect("a 32-bit ELF file with a text section");
+        let mut at = 0;
+        while at < code.len() {
+            let end = code.len().min(at + 15);
+            at += match decoder.decode_slice(&code[at..end]) {
+                Ok(instruction) => found.compare(&instruction, &numbers),
+                Err(_) => 1,
+            };
+        }
+        println!("{file}: {} bytes of code", code.len());
+    }
+    let mut random = Random::new(1);
+    for _ in 0..RANDOM {
+        let mut code = [0; 15];
+        code.fill_with(|| random.byte());
+        // now and then a prefix or the second opcode page, which chance alone seldom gives
+        if random.chance(1, 3) {
+            code[0] = random.pick(&[0x0f, 0x0f, 0x0f, 0x66, 0xf2, 0xf3, 0x64, 0x3e, 0xf0, 0xd8, 0xdb, 0xdd, 0xdf]);
+        }
+        if random.chance(1, 4) {
+            let start = random.pick(&RARE);
+            code[..start.len()].copy_from_slice(start);
+        }
+        if let Ok(instruction) = decoder.decode_slice(&code) {
+            found.compare(&instruction, &numbers);
+        }
+    }
+    let ended = found.report();
+    std::fs::write(format!("{}/listing", words[0]), &found.listing).expect("the folder can be written");
+    std::fs::write(format!("{}/lines", words[0]), &found.lines).expect("the folder can be written");
+    std::process::exit(ended)
+}
+
+impl Found {
+    /// Returns the instruction's length.
+    fn compare(&mut self, instruction: &Instruction, numbers: &HashMap<String, u16>) -> usize {
+        self.decoded += 1;
+        let parts = fields(instruction);
+        let length = length(instruction) as usize;
+        let Some(&opcode) = numbers.get(&format!("{:?}", instruction.opcode())) else {
+            self.no_number += 1;
+            return length;
+        };
+        let Some(parts) = parts else {
+            self.no_record += 1;
+            *self.unheld.entry(name_of(opcode).into()).or_default() += 1;
+            return length;
+        };
+        let body = Record {
+            opcode,
+            flags: parts.flags,
+            length: parts.length,
+            mem_size: parts.mem_size,
+            imm: parts.imm,
+            disp: parts.disp as i32,
+            count: parts.count,
+            slots: parts.slots.map(|[kind, segment, first, second, scale]| Slot { kind, segment, first, second, scale }),
+        }
+        .body();
+        *self.opcodes.entry(opcode).or_default() += 1;
+        let mut theirs = String::new();
+        let printed = catch_unwind(AssertUnwindSafe(|| line(instruction, &mut theirs)));
+        let mut ours = Sink::default();
+        let answer = line_into(&body, 0, &mut ours).expect("000 prints what document 01 accepts");
+        let hex: String = body.iter().map(|byte| format!("{byte:02X}")).collect();
+        self.listing.extend((body.len() as u16).to_be_bytes());
+        self.listing.extend_from_slice(&body);
+        let ours = match answer {
+            0 => String::from_utf8_lossy(&ours.0).into_owned(),
+            refused => format!("; refused {refused}"),
+        };
+        self.lines.extend_from_slice(ours.as_bytes());
+        self.lines.push(b'\n');
+        if printed.is_err() {
+            let case = self.panics.entry((answer, name_of(opcode).into())).or_insert((0, hex));
+            case.0 += 1;
+        } else if ours == theirs {
+            self.same += 1;
+        } else {
+            let case = self.differ.entry(kind_of_difference(name_of(opcode), &ours, &theirs)).or_insert((0, hex, ours, theirs));
+            case.0 += 1;
+        }
+        length
+    }
+
+    fn report(&self) -> i32 {
+        println!(
+            "{} decoded; {} of other opcodes, {} with operands that no record holds; {} same lines, of {} opcodes",
+            self.decoded, self.no_number, self.no_record, self.same, self.opcodes.len()
+        );
+        let unheld: Vec<String> = self.unheld.iter().map(|(name, count)| format!("{name} {count}")).collect();
+        println!("no record holds: {}", unheld.join(", "));
+        for ((answer, name), (count, body)) in &self.panics {
+            println!("the crate's 000 panics, we answer {answer}: {name}, {count} times, first {body}");
+        }
+        for (what, (count, body, ours, theirs)) in &self.differ {
+            println!("DIFFERENT {what}, {count} times\n  body   {body}\n  ours   {ours}\n  crate  {theirs}");
+        }
+        let never: Vec<&str> =
+            (0..154).filter(|number| !self.opcodes.contains_key(number)).map(name_of).collect();
+        println!("never decoded: {}", never.join(" "));
+        !self.differ.is_empty() as i32
+    }
+}
+
+/// Differences of one opcode that say the same are counted together.
+fn kind_of_difference(name: &str, ours: &str, theirs: &str) -> String {
+    let refused = ours.strip_prefix("; ").unwrap_or("a line");
+    let mark = if theirs.contains("BUG") { " with BUG" } else { "" };
+    format!("{name}: {refused} against a line{mark}")
+}
+
+/// The bytes of `.text` in a little-endian 32-bit ELF file.
+fn text_section(file: &[u8]) -> Option<&[u8]> {
+    let half = |at: usize| Some(u16::from_le_bytes(file.get(at..at + 2)?.try_into().ok()?) as usize);
+    let word = |at: usize| Some(u32::from_le_bytes(file.get(at..at + 4)?.try_into().ok()?) as usize);
+    if file.get(..5)? != b"\x7fELF\x01" {
+        return None;
+    }
+    let (headers, size, count, names) = (word(32)?, half(46)?, half(48)?, half(50)?);
+    let name_table = word(headers + size * names + 16)?;
+    (0..count).find_map(|number| {
+        let header = headers + size * number;
+        let name = name_table + word(header)?;
+        let (start, length) = (word(header + 16)?, word(header + 20)?);
+        (file.get(name..name + 6)? == b".text\0").then(|| file.get(start..start + length))?
+    })
+}

@@ -1,0 +1,142 @@
+//! Put beside the crate's own modules when `compare/decoder` builds it: from a decoded instruction to
+//! document 01's record, and to 000's line. It stands inside the crate because an operand's place and
+//! the shared fields are the crate's own affair.
+
+use super::display::masm::contextualize;
+use super::{Instruction, OperandSpec, RegSpec, RegisterBank, Segment};
+use core::fmt;
+use yaxpeax_arch::{AddressDiff, LengthedInstruction};
+
+/// An empty stand-in for what version 2.0.0 has not: no item is replaced by a caller's text.
+pub trait DisplayRules<T> {
+    fn emit_register(&self, _: RegSpec, _: &mut T) -> Result<bool, fmt::Error> {
+        Ok(false)
+    }
+    fn emit_signed_immediate(&self, _: i32, _: &mut T) -> Result<bool, fmt::Error> {
+        Ok(false)
+    }
+    fn emit_unsigned_immediate(&self, _: u32, _: &mut T) -> Result<bool, fmt::Error> {
+        Ok(false)
+    }
+    fn emit_absolute_address(&self, _: u32, _: &mut T) -> Result<bool, fmt::Error> {
+        Ok(false)
+    }
+    fn emit_far_address(&self, _: u16, _: u32, _: &mut T) -> Result<bool, fmt::Error> {
+        Ok(false)
+    }
+    fn emit_branch_addr(&self, _: AddressDiff<u32>, _: i32, _: &mut T) -> Result<bool, fmt::Error> {
+        Ok(false)
+    }
+    fn emit_operand(&self, _: &Instruction, _: u8, _: &mut T) -> Result<bool, fmt::Error> {
+        Ok(false)
+    }
+}
+
+struct NoRules;
+impl<T> DisplayRules<T> for NoRules {}
+
+/// 000's line, with the published crate's own names, labels and segment rules.
+pub fn line<W: fmt::Write>(instruction: &Instruction, out: &mut W) -> fmt::Result {
+    contextualize(instruction, &NoRules, &mut yaxpeax_arch::display::FmtSink::new(out))
+}
+
+/// A record's fields but for the opcode's number, which goes by name.
+pub struct Fields {
+    pub flags: u8,
+    pub length: u8,
+    pub mem_size: u8,
+    pub imm: u32,
+    pub disp: u32,
+    pub count: u8,
+    pub slots: [[u8; 5]; 4],
+}
+
+/// The record of an instruction, if document 01 has one.
+pub fn fields(instruction: &Instruction) -> Option<Fields> {
+    let prefixes = &instruction.prefixes;
+    if prefixes.evex().is_some() {
+        return None;
+    }
+    let bits = [
+        instruction.xacquire(),
+        instruction.xrelease(),
+        prefixes.lock(),
+        prefixes.rep(),
+        prefixes.repnz(),
+        prefixes.operand_size(),
+    ];
+    let mut slots = [[0; 5]; 4];
+    for place in 0..instruction.operand_count {
+        slots[place as usize] = slot(instruction, place)?;
+    }
+    Some(Fields {
+        flags: bits.iter().enumerate().map(|(bit, &set)| (set as u8) << bit).sum(),
+        length: length(instruction) as u8,
+        mem_size: instruction.mem_size,
+        imm: instruction.imm,
+        disp: instruction.disp,
+        count: instruction.operand_count,
+        slots,
+    })
+}
+
+pub fn length(instruction: &Instruction) -> u32 {
+    use yaxpeax_arch::AddressBase;
+    0u32.wrapping_offset(instruction.len()).to_linear() as u32
+}
+
+/// Kind, segment, first and second register, scale.
+fn slot(instruction: &Instruction, place: u8) -> Option<[u8; 5]> {
+    let [in_r, in_m, third, _] = instruction.regs;
+    let scale = instruction.scale;
+    let esi = RegSpec::esi();
+    let edi = RegSpec::edi();
+    let (kind, first, second, scale) = match instruction.operands[place as usize] {
+        OperandSpec::RegRRR => (1, register(in_r)?, 0, 0),
+        OperandSpec::RegMMM => (2, register(in_m)?, 0, 0),
+        OperandSpec::ImmI8 => (3, 0, 0, 0),
+        OperandSpec::ImmI16 => (4, 0, 0, 0),
+        OperandSpec::ImmI32 => (5, 0, 0, 0),
+        OperandSpec::ImmU8 => (6, 0, 0, 0),
+        OperandSpec::ImmU16 => (7, 0, 0, 0),
+        OperandSpec::DispU16 => (9, 0, 0, 0),
+        OperandSpec::DispU32 => (10, 0, 0, 0),
+        OperandSpec::Deref => (11, register(in_m)?, 0, 0),
+        OperandSpec::Deref_si => (11, register(RegSpec::si())?, 0, 0),
+        OperandSpec::Deref_di => (11, register(RegSpec::di())?, 0, 0),
+        OperandSpec::Deref_esi => (11, register(esi)?, 0, 0),
+        OperandSpec::Deref_edi => (11, register(edi)?, 0, 0),
+        OperandSpec::Disp => (12, register(in_m)?, 0, 0),
+        OperandSpec::MemIndexScale => (13, register(third)?, 0, scale),
+        OperandSpec::MemIndexScaleDisp => (14, register(third)?, 0, scale),
+        OperandSpec::MemBaseIndexScale => (15, register(in_m)?, register(third)?, scale),
+        OperandSpec::MemBaseIndexScaleDisp => (16, register(in_m)?, register(third)?, scale),
+        _ => return None,
+    };
+    let segment = match instruction.segment_override_for_op(place) {
+        _ if kind < 9 => 0,
+        None => 0,
+        Some(Segment::ES) => 1,
+        Some(Segment::CS) => 2,
+        Some(Segment::SS) => 3,
+        Some(Segment::DS) => 4,
+        Some(Segment::FS) => 5,
+        Some(Segment::GS) => 6,
+    };
+    Some([kind, segment, first, second, scale])
+}
+
+fn register(register: RegSpec) -> Option<u8> {
+    let bank = match register.bank {
+        RegisterBank::D => 0,
+        RegisterBank::W => 1,
+        RegisterBank::B => 2,
+        RegisterBank::S => 3,
+        RegisterBank::ST => 4,
+        RegisterBank::MM => 5,
+        RegisterBank::X => 6,
+        RegisterBank::Y => 7,
+        _ => return None,
+    };
+    (register.num < 8).then_some(8 * bank + register.num)
+}

@@ -1,0 +1,91 @@
+-- The Instruction of an accepted body keeps document 01's record rules: what the crates above take from `decoded`.
+-- Assumes nothing.
+use mathlib.Core.Bool.{Bool, true, false, not, cond}
+use mathlib.Core.List.{List}
+use mathlib.Core.Path.{_≡_, refl, sym, _∙_, ap}
+use Prim.Native.Nat.{ℕ, _+_, _^_, _<_}
+use native.Mathlib.Omega.{arith}
+use lib.Dec.{leb, ltb}
+use borrow.Author.Tests.{ltb-false, leb-false, le-ltb, not-true}
+use Rattle.operands.specs.declared.Instruction.{Instruction}
+use Rattle.operands.specs.declared.Operand.{Operand}
+use Rattle.operands.specs.declared.Operand.the-variants.{Absent}
+use Rattle.operands.specs.Kinds.{isAbsent}
+use Rattle.bodies.specs.declared.Decoded.the-variants.{Length, Field, Record}
+use Rattle.bodies.specs.Body.{byte, dword, opcodeOf, flagsOf, lengthOf, immOf, dispOf, countOf, placeOf}
+use Rattle.bodies.specs.Refusals.{operandRefused, lengthRefused, fieldRefused}
+use Rattle.bodies.specs.Decoding.{operandOf, operandAt, instructionOf, decoded}
+use Rattle.bodies.specs.WellFormed.{Bytes, Kept, WellFormed}
+use Rattle.bodies.proofs.Picks.{neither-left, neither-right, then-kept, picked}
+use Rattle.bodies.proofs.Operands.{operand-kept}
+
+dword-fits : (body : List ℕ) → Bytes body → (at : ℕ) → dword body at < 2 ^ 32
+dword-fits body bytes at = omega (arith, bytes at, bytes (at + 1), bytes (at + 2), bytes (at + 3))
+
+-- an operand that five bytes say is there, whatever they are
+present : (imm disp kind segment first second scale : ℕ) → isAbsent (operandOf imm disp kind segment first second scale) ≡ false
+unfolding operandOf
+present imm disp kind segment first second scale =
+    let There : Operand → Type 0 = λ (o : Operand). isAbsent o ≡ false in
+    picked There (leb kind 2) _ _ (λ e. refl)
+    (λ e.
+    picked There (leb kind 8) _ _ (λ f. refl)
+    (λ f. picked There (leb kind 9) _ _ (λ g. refl) (λ g. picked There (leb kind 10) _ _ (λ h. refl) (λ h. refl))))
+
+absent-unless : (t : Bool) (o : Operand) → isAbsent o ≡ false → isAbsent (cond t o Absent) ≡ not t
+absent-unless true o e = e
+absent-unless false o e = refl
+
+-- an operand is there exactly before the count
+pub absent-from-count : (body : List ℕ) (k : ℕ) → isAbsent (operandAt body k) ≡ not (ltb k (countOf body))
+unfolding operandAt
+absent-from-count body k =
+    let at : ℕ → ℕ = λ (j : ℕ). byte body (placeOf k + j) in
+    absent-unless (ltb k (countOf body)) _ (present (immOf body) (dispOf body) (byte body (placeOf k)) (at 1) (at 2) (at 3) (at 4))
+
+-- so none stands behind an absent one
+absent-on : (body : List ℕ) (k : ℕ) → isAbsent (operandAt body k) ≡ true → isAbsent (operandAt body (k + 1)) ≡ true
+absent-on body k e =
+    let past = ltb-false k (countOf body) (not-true (ltb k (countOf body)) (sym (absent-from-count body k) ∙ e)) in
+    absent-from-count body (k + 1) ∙ ap not (le-ltb (k + 1) (countOf body) (omega arith))
+
+module _ (body : List ℕ) (bytes : Bytes body) where
+  stored-kept : (k : ℕ) → operandRefused body k ≡ false → Kept (operandAt body k)
+  unfolding operandAt operandRefused
+  stored-kept k e =
+      picked Kept (ltb k (countOf body)) _ _
+      (λ f.
+      operand-kept _ _ _ _ _ (then-kept (ltb k (countOf body)) _ e f) (dispOf body) (dword-fits body bytes 9) (immOf body)
+      (dword-fits body bytes 5))
+      (λ f. tt)
+
+  pub accepted : fieldRefused body ≡ false → WellFormed (instructionOf body)
+  unfolding fieldRefused instructionOf
+  accepted e =
+      record {
+        opcode = leb-false 154 (opcodeOf body) (search (neither-left, neither-right, e) depth 10);
+        flags = leb-false 64 (flagsOf body) (search (neither-left, neither-right, e) depth 10);
+        length-least = ltb-false (lengthOf body) 1 (search (neither-left, neither-right, e) depth 10);
+        length-most = ltb-false 15 (lengthOf body) (search (neither-left, neither-right, e) depth 10);
+        size = bytes 4;
+        imm = dword-fits body bytes 5;
+        a = stored-kept 0 (search (neither-left, neither-right, e) depth 10);
+        b = stored-kept 1 (search (neither-left, neither-right, e) depth 10);
+        c = stored-kept 2 (search (neither-left, neither-right, e) depth 10);
+        d = stored-kept 3 (search (neither-left, neither-right, e) depth 10);
+        no-a = absent-on body 0;
+        no-b = absent-on body 1;
+        no-c = absent-on body 2;
+      }
+
+-- what `decoded` says where it is a record
+recorded-by : (l f : Bool) (x i : Instruction) → cond l Length (cond f Field (Record x)) ≡ Record i → (f ≡ false) × (x ≡ i)
+recorded-by true f x i e = (cc, cc)
+recorded-by false true x i e = (cc, cc)
+recorded-by false false x i e = (refl, cc)
+
+pub record-kept : (body : List ℕ) (i : Instruction) → Bytes body → decoded body ≡ Record i → WellFormed i
+unfolding decoded
+record-kept body i bytes e =
+    let r = recorded-by (lengthRefused body) (fieldRefused body) (instructionOf body) i e in
+    rw (r .1) at (accepted body bytes (r .0))

@@ -1,0 +1,29 @@
+-- `bodies::numbers::displacement_of` meets its contract: the signed number fits an i32, so it is passed on unchanged.
+-- Assumes nothing.
+use borrow.Author.Needs.{needs}
+use Rattle.bodies.specs.Decoding.{displacement}
+use mathlib.Core.Path.{sym, _∙_}
+use mir.Facts.{toZ-ofZ}
+use Rattle.bodies.proofs.Signed.{signed-fits}
+use Rattle.bodies.proofs.numbers.displacement_of.Statement.{statement}
+use Rattle.bodies.proofs.numbers.displacement_of.Tie as tie
+
+is-displaced-requires : tie.Need-is-displaced-requires
+is-displaced-requires c κs = search needs
+
+signed-of-requires : tie.Need-signed-of-requires
+signed-of-requires c κs = search needs
+
+returns : tie.Need-returns
+unfolding displacement
+returns c =
+    rw (c .signed-of .ensures, sym (c .before .before .is-displaced .ensures) ∙ c .before .if1 .taken)
+    (toZ-ofZ (signed-fits _ (c .before .before .before .fits .disp)))
+
+returns-2 : tie.Need-returns-2
+unfolding displacement
+returns-2 c = rw (sym (c .before .is-displaced .ensures) ∙ c .if1 .left)
+
+pub displacement-of-spec : {M : Type 1} → statement M
+displacement-of-spec =
+    tie.close (tie.spec is-displaced-requires signed-of-requires returns returns-2)

@@ -1,0 +1,84 @@
+-- `bodies::parts::operand_at` meets its contract: below the count the operand's five bytes are there.
+-- Assumes nothing.
+use borrow.Author.Needs.{needs}
+use Rattle.bodies.specs.Decoding.{operandAt}
+use borrow.Author.Tests.{lt-ltb, le-ltb}
+use Rattle.bodies.specs.Body.{countOf}
+use denote.Ref.{now}
+use native.Mathlib.Omega.{arith}
+use Rattle.bodies.proofs.parts.operand_at.Statement.{statement}
+use Rattle.bodies.proofs.parts.operand_at.Tie as tie
+
+byte-at-requires : tie.Need-byte-at-requires
+byte-at-requires c κs = search needs
+
+cast-if1 : tie.Need-cast-if1
+cast-if1 c = search needs
+
+mul-at : tie.Need-mul-at
+mul-at c = search needs
+
+add-at : tie.Need-add-at
+add-at c = search needs
+
+shared-slice-read-operand : tie.Need-shared-slice-read-operand
+shared-slice-read-operand c = search needs
+
+add-operand : tie.Need-add-operand
+add-operand c = search needs
+
+shared-slice-read-operand-2 : tie.Need-shared-slice-read-operand-2
+shared-slice-read-operand-2 c = search needs
+
+add-operand-2 : tie.Need-add-operand-2
+add-operand-2 c = search needs
+
+shared-slice-read-operand-3 : tie.Need-shared-slice-read-operand-3
+shared-slice-read-operand-3 c = search needs
+
+add-operand-3 : tie.Need-add-operand-3
+add-operand-3 c = search needs
+
+shared-slice-read-operand-4 : tie.Need-shared-slice-read-operand-4
+shared-slice-read-operand-4 c = search needs
+
+add-operand-4 : tie.Need-add-operand-4
+add-operand-4 c = search needs
+
+shared-slice-read-operand-5 : tie.Need-shared-slice-read-operand-5
+shared-slice-read-operand-5 c = search needs
+
+operand-requires : tie.Need-operand-requires
+operand-requires c κs = search needs
+
+returns : tie.Need-returns
+unfolding operandAt
+returns c =
+    let s = c .before .before .before .before .before .before .before .before .before in
+    rw (lt-ltb (s .args .k) (countOf (now (s .args .body))) (omega (arith, c .before .before .before .before .before .before)), ← s .pre .1 .0, ← s .pre .1 .1)
+    (c .operand .ensures)
+
+returns-2 : tie.Need-returns-2
+unfolding operandAt
+returns-2 c = let a = c .before .before .before .args in rw (le-ltb (a .k) (countOf (now (a .body))) (omega arith))
+
+pub operand-at-spec : {M : Type 1} → statement M
+operand-at-spec =
+    tie.close
+    (tie.spec
+    byte-at-requires
+    cast-if1
+    mul-at
+    add-at
+    shared-slice-read-operand
+    add-operand
+    shared-slice-read-operand-2
+    add-operand-2
+    shared-slice-read-operand-3
+    add-operand-3
+    shared-slice-read-operand-4
+    add-operand-4
+    shared-slice-read-operand-5
+    operand-requires
+    returns
+    returns-2)

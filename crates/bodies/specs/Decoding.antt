@@ -1,0 +1,109 @@
+-- What an accepted body says: its Instruction. Nothing here decides a refusal.
+-- Assumes nothing.
+use mathlib.Core.Bool.{Bool, true, false, cond, _||_}
+use mathlib.Core.List.{List}
+use Prim.Native.Nat.{ℕ, suc, _+_, _-_, _%_, _^_}
+use lib.Dec.{eqb, leb, ltb}
+use lib.IntN.{ℤ, pos, negsuc}
+use Rattle.operands.specs.declared.Address.{Address}
+use Rattle.operands.specs.declared.Operand.{Operand}
+use Rattle.operands.specs.declared.Operand.the-variants.{Absent, Register, Imm, Absolute16, Absolute32, Memory}
+use Rattle.operands.specs.declared.Instruction.{Instruction}
+use Rattle.bodies.specs.declared.Decoded.{Decoded}
+use Rattle.bodies.specs.declared.Decoded.the-variants.{Length, Field, Record}
+use Rattle.bodies.specs.Body.{byte, opcodeOf, flagsOf, lengthOf, sizeOf, immOf, dispOf, countOf, placeOf}
+use Rattle.bodies.specs.Refusals.{lengthRefused, fieldRefused}
+
+-- "disp, signed": 32 bits in two's complement
+abbrev pub signed : ℕ → ℤ
+signed bits = cond (ltb bits (2 ^ 31)) (pos bits) (negsuc (2 ^ 32 - suc bits))
+
+-- "Signed immediates are first extended to 32 bits and read as unsigned": `low` has its sign from `top` up
+abbrev pub extended : ℕ → ℕ → ℕ
+extended top low = cond (ltb low top) low (low + (2 ^ 32 - (top + top)))
+
+-- "immediates 3 i8, 4 i16, 5 i32, 6 u8, 7 u16, 8 u32"; "Immediates take the low bits of imm"
+unfoldable pub immediate : ℕ → ℕ → ℕ
+immediate kind imm =
+    cond (eqb kind 3) (extended (2 ^ 7) (imm % 2 ^ 8)) (
+    cond (eqb kind 4) (extended (2 ^ 15) (imm % 2 ^ 16)) (
+    cond (eqb kind 6) (imm % 2 ^ 8) (
+    cond (eqb kind 7) (imm % 2 ^ 16) imm)))
+
+-- "12 `[r disp]` .. 14 the same with disp .. 16 the same with disp"
+abbrev pub isDisplaced : ℕ → Bool
+isDisplaced kind = eqb kind 12 || eqb kind 14 || eqb kind 16
+
+-- the displacement of a kind that has one, else 0
+unfoldable pub displacement : ℕ → ℕ → ℤ
+displacement kind disp = cond (isDisplaced kind) (signed disp) (pos 0)
+
+-- "11 `[r]`, 12 `[r disp]`, 13 index and scale, 14 the same with disp, 15 base, index and scale, 16 the same with disp"; a part that
+-- the kind lacks is false and 0
+unfoldable pub addressOf : ℕ → ℕ → ℕ → ℕ → ℕ → Address
+addressOf kind first second scale disp =
+    cond (leb kind 12) (
+    record {
+      disp = displacement kind disp;
+      base = first;
+      index = 0;
+      scale = 0;
+      based = true;
+      indexed = false;
+      displaced = isDisplaced kind;
+    }) (
+    cond (leb kind 14) (
+    record {
+      disp = displacement kind disp;
+      base = 0;
+      index = first;
+      scale = scale;
+      based = false;
+      indexed = true;
+      displaced = isDisplaced kind;
+    }) (
+    record {
+      disp = displacement kind disp;
+      base = first;
+      index = second;
+      scale = scale;
+      based = true;
+      indexed = true;
+      displaced = isDisplaced kind;
+    }))
+
+-- the operand that five bytes say, with imm and disp of the body: "1 register in the R place, 2 register in the M place; immediates
+-- 3 .. 8; memory: 9 absolute u16, 10 absolute u32, 11 .."; "absolutes [take] the low bits of disp"
+unfoldable pub operandOf : ℕ → ℕ → ℕ → ℕ → ℕ → ℕ → ℕ → Operand
+operandOf imm disp kind segment first second scale =
+    cond (leb kind 2) (Register kind first) (
+    cond (leb kind 8) (Imm kind (immediate kind imm)) (
+    cond (leb kind 9) (Absolute16 segment (disp % 2 ^ 16)) (
+    cond (leb kind 10) (Absolute32 segment disp) (Memory segment (addressOf kind first second scale disp)))))
+
+-- operand k, `Absent` at or past the count
+unfoldable pub operandAt : List ℕ → ℕ → Operand
+operandAt body k =
+    cond (ltb k (countOf body))
+    (operandOf (immOf body) (dispOf body) (byte body (placeOf k)) (byte body (placeOf k + 1)) (byte body (placeOf k + 2))
+    (byte body (placeOf k + 3)) (byte body (placeOf k + 4)))
+    Absent
+
+-- the record of a body
+unfoldable pub instructionOf : List ℕ → Instruction
+instructionOf body =
+    record {
+      opcode = opcodeOf body;
+      flags = flagsOf body;
+      length = lengthOf body;
+      size = sizeOf body;
+      imm = immOf body;
+      a = operandAt body 0;
+      b = operandAt body 1;
+      c = operandAt body 2;
+      d = operandAt body 3;
+    }
+
+-- "The lowest number that applies is given": answer 2 before answer 3, and else the record
+unfoldable pub decoded : List ℕ → Decoded
+decoded body = cond (lengthRefused body) Length (cond (fieldRefused body) Field (Record (instructionOf body)))

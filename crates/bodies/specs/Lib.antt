@@ -1,0 +1,5 @@
+-- What a record body says, and which bodies are refused. Definitions only: the laws are in proofs/.
+pub mod Body
+pub mod Refusals
+pub mod Decoding
+pub mod WellFormed

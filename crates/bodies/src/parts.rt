@@ -1,0 +1,120 @@
+// The parts of an accepted body.
+ghost use mathlib.Core.Path.{_≡_};
+ghost use Rattle.bodies.specs.Refusals.{Whole};
+ghost use Rattle.bodies.specs.Body.{immOf, dispOf};
+ghost use Rattle.bodies.specs.Decoding.{addressOf, operandOf, operandAt, instructionOf};
+use crate::numbers;
+use operands::Address;
+use operands::Instruction;
+use operands::Operand;
+
+fn address(kind: u8, first: u8, second: u8, scale: u8, disp: u32) -> Address
+    ensures { λ r. ⌜ r ≡ addressOf kind first second scale disp ⌝ }
+{
+    let displaced = numbers::is_displaced(kind);
+    let moved = numbers::displacement_of(kind, disp);
+    if kind <= 12 {
+        Address {
+            disp: moved,
+            base: first,
+            index: 0,
+            scale: 0,
+            based: true,
+            indexed: false,
+            displaced: displaced,
+        }
+    } else if kind <= 14 {
+        Address {
+            disp: moved,
+            base: 0,
+            index: first,
+            scale: scale,
+            based: false,
+            indexed: true,
+            displaced: displaced,
+        }
+    } else {
+        Address {
+            disp: moved,
+            base: first,
+            index: second,
+            scale: scale,
+            based: true,
+            indexed: true,
+            displaced: displaced,
+        }
+    }
+}
+
+fn operand(imm: u32, disp: u32, kind: u8, segment: u8, first: u8, second: u8, scale: u8) -> Operand
+    ensures { λ r. ⌜ r ≡ operandOf imm disp kind segment first second scale ⌝ }
+{
+    if kind <= 2 {
+        Operand::Register {
+            place: kind,
+            reg: first,
+        }
+    } else if kind <= 8 {
+        Operand::Imm {
+            kind: kind,
+            value: numbers::immediate_of(kind, imm),
+        }
+    } else if kind <= 9 {
+        Operand::Absolute16 {
+            segment: segment,
+            address: (disp % 0x1_0000) as u16,
+        }
+    } else if kind <= 10 {
+        Operand::Absolute32 {
+            segment: segment,
+            address: disp,
+        }
+    } else {
+        Operand::Memory {
+            segment: segment,
+            address: address(kind, first, second, scale, disp),
+        }
+    }
+}
+
+// Operand k of a body whose imm and disp are read already.
+fn operand_at(body: &[u8], k: usize, imm: u32, disp: u32) -> Operand
+    requires { ⌜ Whole (now body) ⌝ }
+    requires { ⌜ imm ≡ immOf (now body) ⌝ }
+    requires { ⌜ disp ≡ dispOf (now body) ⌝ }
+    ensures { λ r. ⌜ r ≡ operandAt (now (body .entry)) k ⌝ }
+{
+    if k < (numbers::byte_at(body, 13) as usize) {
+        let at = 14 + 5 * k;
+        operand(
+            imm,
+            disp,
+            body[at],
+            body[at + 1],
+            body[at + 2],
+            body[at + 3],
+            body[at + 4],
+        )
+    } else {
+        Operand::Absent
+    }
+}
+
+pub fn instruction(body: &[u8]) -> Instruction
+    requires { ⌜ Whole (now body) ⌝ }
+    ensures { λ r. ⌜ r ≡ instructionOf (now (body .entry)) ⌝ }
+{
+    let imm = numbers::dword_at(body, 5);
+    let disp = numbers::dword_at(body, 9);
+    Instruction {
+        opcode: numbers::word_at(body, 0),
+        flags: body[2],
+        length: body[3],
+        size: body[4],
+        imm: imm,
+        a: operand_at(body, 0, imm, disp),
+        b: operand_at(body, 1, imm, disp),
+        c: operand_at(body, 2, imm, disp),
+        d: operand_at(body, 3, imm, disp),
+    }
+}

@@ -1,0 +1,158 @@
+// A bracket: the parts that the operand's kind has, in document 01's order.
+ghost use mathlib.Core.Path.{_≡_};
+ghost use Prim.Native.Nat.{_≤_};
+ghost use lib.ListN.{length};
+ghost use Rattle.text.specs.Write.{Room, Put};
+ghost use Rattle.text.specs.Words.{Table};
+ghost use Rattle.names.specs.Registers.{registers};
+ghost use Rattle.items.specs.Brackets.{baseText, scaleText, indexedText, indexText, tailText, bracketText};
+use names::registers::Letters;
+use names::registers::Starts;
+use operands::Address;
+
+fn put_base(
+    buf: &mut [u8],
+    at: usize,
+    letters: &Letters,
+    starts: &Starts,
+    based: bool,
+    base: u8,
+) -> usize
+    requires { ⌜ Table registers (now letters) (now starts) ⌝ }
+    requires { ⌜ Room (now buf) at (baseText based base) ⌝ }
+    ensures { λ r. ⌜ Put (now (buf .entry)) at (baseText based base) r (now (buf .exit)) ⌝ }
+{
+    if based {
+        names::registers::put_register(buf, at, letters, starts, base)
+    } else {
+        at
+    }
+}
+
+fn put_scale(buf: &mut [u8], at: usize, scale: u8) -> usize
+    requires { ⌜ Room (now buf) at (scaleText scale) ⌝ }
+    ensures { λ r. ⌜ Put (now (buf .entry)) at (scaleText scale) r (now (buf .exit)) ⌝ }
+{
+    if 1 < scale {
+        let next = text::put_bytes(buf, at, b" * ");
+        numerals::digits::put_digits(buf, next, 1, scale as u32)
+    } else {
+        at
+    }
+}
+
+fn put_indexed(
+    buf: &mut [u8],
+    at: usize,
+    letters: &Letters,
+    starts: &Starts,
+    based: bool,
+    index: u8,
+    scale: u8,
+) -> usize
+    requires { ⌜ Table registers (now letters) (now starts) ⌝ }
+    requires { ⌜ Room (now buf) at (indexedText based index scale) ⌝ }
+    ensures { λ r. ⌜ Put (now (buf .entry)) at (indexedText based index scale) r (now (buf .exit)) ⌝ }
+{
+    let next = text::put_when(buf, at, based, b" + ");
+    let next = names::registers::put_register(buf, next, letters, starts, index);
+    put_scale(buf, next, scale)
+}
+
+fn put_index(buf: &mut [u8], at: usize, letters: &Letters, starts: &Starts, a: Address) -> usize
+    requires { ⌜ Table registers (now letters) (now starts) ⌝ }
+    requires { ⌜ Room (now buf) at (indexText a) ⌝ }
+    ensures { λ r. ⌜ Put (now (buf .entry)) at (indexText a) r (now (buf .exit)) ⌝ }
+{
+    if a.indexed {
+        put_indexed(buf, at, letters, starts, a.based, a.index, a.scale)
+    } else {
+        at
+    }
+}
+
+// The displacement, if any, and the end of the bracket.
+fn put_tail(buf: &mut [u8], at: usize, displaced: bool, disp: i32) -> usize
+    requires { ⌜ Room (now buf) at (tailText displaced disp) ⌝ }
+    ensures { λ r. ⌜ Put (now (buf .entry)) at (tailText displaced disp) r (now (buf .exit)) ⌝ }
+{
+    if displaced {
+        let next = text::put_byte(buf, at, b' ');
+        let next = numerals::displacement::masm_displacement(buf, next, disp);
+        text::put_byte(buf, next, b']')
+    } else {
+        text::put_byte(buf, at, b']')
+    }
+}
+
+pub fn put_bracket(
+    buf: &mut [u8],
+    at: usize,
+    letters: &Letters,
+    starts: &Starts,
+    a: Address,
+) -> usize
+    requires { ⌜ Table registers (now letters) (now starts) ⌝ }
+    requires { ⌜ Room (now buf) at (bracketText a) ⌝ }
+    ensures { λ r. ⌜ Put (now (buf .entry)) at (bracketText a) r (now (buf .exit)) ⌝ }
+{
+    let next = text::put_byte(buf, at, b'[');
+    let next = put_base(buf, next, letters, starts, a.based, a.base);
+    let next = put_index(buf, next, letters, starts, a);
+    put_tail(buf, next, a.displaced, a.disp)
+}
+
+fn scale_length(scale: u8) -> usize
+    ensures { λ r. ⌜ r ≡ length (scaleText scale) ⌝ }
+    ensures { λ r. ⌜ r ≤ 4 ⌝ }
+{
+    if 1 < scale { 4 } else { 0 }
+}
+
+fn base_length(letters: &Letters, starts: &Starts, based: bool, base: u8) -> usize
+    requires { ⌜ Table registers (now letters) (now starts) ⌝ }
+    ensures { λ r. ⌜ r ≡ length (baseText based base) ⌝ }
+    ensures { λ r. ⌜ r ≤ 5 ⌝ }
+{
+    if based {
+        names::registers::register_length(letters, starts, base)
+    } else {
+        0
+    }
+}
+
+fn index_length(letters: &Letters, starts: &Starts, a: Address) -> usize
+    requires { ⌜ Table registers (now letters) (now starts) ⌝ }
+    ensures { λ r. ⌜ r ≡ length (indexText a) ⌝ }
+    ensures { λ r. ⌜ r ≤ 12 ⌝ }
+{
+    if a.indexed {
+        text::length_when(a.based, 3)
+            + names::registers::register_length(letters, starts, a.index)
+            + scale_length(a.scale)
+    } else {
+        0
+    }
+}
+
+fn tail_length(displaced: bool, disp: i32) -> usize
+    ensures { λ r. ⌜ r ≡ length (tailText displaced disp) ⌝ }
+    ensures { λ r. ⌜ r ≤ 14 ⌝ }
+{
+    if displaced {
+        numerals::displacement::displacement_length(disp) + 2
+    } else {
+        1
+    }
+}
+
+pub fn bracket_length(letters: &Letters, starts: &Starts, a: Address) -> usize
+    requires { ⌜ Table registers (now letters) (now starts) ⌝ }
+    ensures { λ r. ⌜ r ≡ length (bracketText a) ⌝ }
+    ensures { λ r. ⌜ r ≤ 32 ⌝ }
+{
+    1
+        + base_length(letters, starts, a.based, a.base)
+        + index_length(letters, starts, a)
+        + tail_length(a.displaced, a.disp)
+}
