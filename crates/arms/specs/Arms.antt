@@ -127,3 +127,43 @@ arms =
 -- the arm of an opcode; a number that is no opcode has none, and no record with one is accepted
 unfoldable pub armOf : ℕ → Arm
 armOf opcode = getD arms opcode General
+
+-- an arm's number: its place among the arms, by which the code's table of the opcodes' arms holds it
+abbrev pub number : Arm → ℕ
+number General = 0
+number Qword = 1
+number Mmword = 2
+number Jmpf = 3
+number Callf = 4
+number Lds = 5
+number Movs = 6
+number Cmps = 7
+number Branch = 8
+number Xbegin = 9
+number Feni = 10
+number Fdisi = 11
+number Fsetpm = 12
+number Hreset = 13
+number Lsl = 14
+number Prefetch = 15
+number Sgdt = 16
+number Lss = 17
+number Nop = 18
+number Monitor = 19
+number Mwait = 20
+number Invlpgb = 21
+number Rdpru = 22
+number Scas = 23
+number Lods = 24
+number Psmash = 25
+number Pvalidate = 26
+number Incssp = 27
+number Wrss = 28
+number Pblendvb = 29
+number Lea = 30
+number Pushf = 31
+number Aam = 32
+number Fcom = 33
+number Fadd = 34
+number Fbld = 35
+number Fbstp = 36

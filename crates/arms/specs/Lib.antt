@@ -1,2 +1,6 @@
 -- What each arm shows. Definitions only: the laws are in proofs/.
 pub mod Arms
+pub mod Parts
+pub mod General
+pub mod Rewritten
+pub mod Shows

@@ -1,0 +1,96 @@
+-- The code's table of arm numbers, against the list of the opcodes' arms.
+-- Assumes nothing.
+use mathlib.Core.Path.{_≡_, refl, sym, ap, _∙_}
+use mathlib.Core.List.{List, [], _∷_, map}
+use Prim.Native.Nat.{ℕ, zero, suc, _≤_, _<_}
+use native.Mathlib.Decide.{decLt}
+use native.Mathlib.Omega.{arith}
+use lib.ListN.{getD, length, List·getD-map, List·getD-eq-default}
+use Rattle.arms.specs.declared.Arm.{Arm}
+use Rattle.arms.specs.declared.Arm.the-variants as arm
+use Rattle.arms.specs.Arms.{arms, armOf, number}
+
+-- the arms by their numbers
+abbrev inOrder : List Arm
+inOrder =
+    arm.General ∷ arm.Qword ∷ arm.Mmword ∷ arm.Jmpf ∷ arm.Callf ∷ arm.Lds ∷
+    arm.Movs ∷ arm.Cmps ∷ arm.Branch ∷ arm.Xbegin ∷ arm.Feni ∷ arm.Fdisi ∷
+    arm.Fsetpm ∷ arm.Hreset ∷ arm.Lsl ∷ arm.Prefetch ∷ arm.Sgdt ∷ arm.Lss ∷
+    arm.Nop ∷ arm.Monitor ∷ arm.Mwait ∷ arm.Invlpgb ∷ arm.Rdpru ∷ arm.Scas ∷
+    arm.Lods ∷ arm.Psmash ∷ arm.Pvalidate ∷ arm.Incssp ∷ arm.Wrss ∷ arm.Pblendvb ∷
+    arm.Lea ∷ arm.Pushf ∷ arm.Aam ∷ arm.Fcom ∷ arm.Fadd ∷ arm.Fbld ∷
+    arm.Fbstp ∷ []
+
+abbrev pub armAt : ℕ → Arm
+armAt n = getD inOrder n arm.General
+
+-- an arm's number leads back to it
+at-number : (a : Arm) → armAt (number a) ≡ a
+at-number arm.General = refl
+at-number arm.Qword = refl
+at-number arm.Mmword = refl
+at-number arm.Jmpf = refl
+at-number arm.Callf = refl
+at-number arm.Lds = refl
+at-number arm.Movs = refl
+at-number arm.Cmps = refl
+at-number arm.Branch = refl
+at-number arm.Xbegin = refl
+at-number arm.Feni = refl
+at-number arm.Fdisi = refl
+at-number arm.Fsetpm = refl
+at-number arm.Hreset = refl
+at-number arm.Lsl = refl
+at-number arm.Prefetch = refl
+at-number arm.Sgdt = refl
+at-number arm.Lss = refl
+at-number arm.Nop = refl
+at-number arm.Monitor = refl
+at-number arm.Mwait = refl
+at-number arm.Invlpgb = refl
+at-number arm.Rdpru = refl
+at-number arm.Scas = refl
+at-number arm.Lods = refl
+at-number arm.Psmash = refl
+at-number arm.Pvalidate = refl
+at-number arm.Incssp = refl
+at-number arm.Wrss = refl
+at-number arm.Pblendvb = refl
+at-number arm.Lea = refl
+at-number arm.Pushf = refl
+at-number arm.Aam = refl
+at-number arm.Fcom = refl
+at-number arm.Fadd = refl
+at-number arm.Fbld = refl
+at-number arm.Fbstp = refl
+
+-- the number is none of 1 to k
+abbrev pub NoneTo : ℕ → ℕ → Type 0
+NoneTo n zero = Unit {0}
+NoneTo n (suc k) = NoneTo n k × (n ≡ suc k → ⊥)
+
+none-to : (n k : ℕ) → NoneTo n k → n < suc k → n ≡ 0
+none-to n zero none h = omega arith
+none-to n (suc k) none h = none-to n k (none .0) (omega (arith, none .1))
+
+-- a number that no arm behind the first has leads to the first
+pub at-else : (n : ℕ) → NoneTo n 36 → armAt n ≡ arm.General
+at-else n none =
+    elim (decLt n 37) [
+      | yes h ↦ ap armAt (none-to n 36 none h)
+      | no h ↦ List·getD-eq-default inOrder arm.General {n = n} (omega arith)
+    ]
+
+module _ (table : List ℕ) (is : table ≡ map number arms) (opcode : ℕ) where
+  -- the arm whose number the table has at the opcode is the opcode's
+  pub arm-here : armAt (getD table opcode 0) ≡ armOf opcode
+  unfolding armOf
+  arm-here = ap (λ (t : List ℕ). armAt (getD t opcode 0)) is ∙ ap armAt (List·getD-map number arms opcode arm.General) ∙ at-number (getD arms opcode arm.General)
+
+  pub arm-found : (k : ℕ) → getD table opcode 0 ≡ k → armAt k ≡ armOf opcode
+  arm-found k found = ap armAt (sym found) ∙ arm-here
+
+-- a number that is no opcode has the general path
+pub arm-past : (opcode : ℕ) → 154 ≤ opcode → armOf opcode ≡ arm.General
+unfolding armOf arms
+arm-past opcode past = List·getD-eq-default arms arm.General past

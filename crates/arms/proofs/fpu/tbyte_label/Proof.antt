@@ -1,0 +1,22 @@
+use Rattle.arms.specs.Rewritten.{tbyteLabel}
+use borrow.Author.Tests.{ne-eqb}
+use borrow.Author.Needs.{needs}
+use Rattle.arms.proofs.fpu.tbyte_label.Statement.{statement}
+use Rattle.arms.proofs.fpu.tbyte_label.Tie as tie
+use Rattle.arms.proofs.fpu.tbyte_label.Reads as reads
+use Rattle.arms.proofs.fpu.tbyte_label.Lts as lts
+use Rattle.arms.proofs.parts.size_label.Reads as size-label-reads
+
+size-label-requires : tie.Need-size-label-requires
+size-label-requires c κs = search needs
+
+returns : tie.Need-returns
+unfolding tbyteLabel
+returns c = rw (c .match .keys1)
+
+returns-2 : tie.Need-returns-2
+unfolding tbyteLabel
+returns-2 c = rw (c .size-label .ensures, ne-eqb _ _ (c .before .match .rest .1))
+
+pub tbyte-label-spec : {M : Type 1} → statement M
+tbyte-label-spec = tie.close (tie.spec size-label-requires returns returns-2)

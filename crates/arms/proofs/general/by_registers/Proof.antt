@@ -1,0 +1,20 @@
+use Rattle.arms.proofs.Mmword.{general-at-8}
+use borrow.Author.Needs.{needs}
+use Rattle.arms.proofs.general.by_registers.Statement.{statement}
+use Rattle.arms.proofs.general.by_registers.Tie as tie
+use Rattle.arms.proofs.general.by_registers.Reads as reads
+use Rattle.arms.proofs.general.by_registers.Lts as lts
+use Rattle.arms.proofs.general.general.Reads as general-reads
+use Rattle.arms.proofs.general.wants_mmword.Reads as wants-mmword-reads
+
+wants-mmword-requires : tie.Need-wants-mmword-requires
+wants-mmword-requires c κs = search needs
+
+general-requires : tie.Need-general-requires
+general-requires c κs = search needs
+
+returns : tie.Need-returns
+returns c = rw (c .general .ensures, c .before .wants-mmword .ensures, general-at-8)
+
+pub by-registers-spec : {M : Type 1} → statement M
+by-registers-spec = tie.close (tie.spec wants-mmword-requires general-requires returns)

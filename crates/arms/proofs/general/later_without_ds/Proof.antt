@@ -1,0 +1,22 @@
+use borrow.Author.Needs.{needs}
+use Rattle.arms.proofs.general.later_without_ds.Statement.{statement}
+use Rattle.arms.proofs.general.later_without_ds.Tie as tie
+use Rattle.arms.proofs.general.later_without_ds.Reads as reads
+use Rattle.arms.proofs.general.later_without_ds.Lts as lts
+use Rattle.arms.proofs.general.without_ds.Reads as without-ds-reads
+
+without-ds-requires : tie.Need-without-ds-requires
+without-ds-requires c κs = search needs
+
+without-ds-requires-2 : tie.Need-without-ds-requires-2
+without-ds-requires-2 c κs = search needs
+
+without-ds-requires-3 : tie.Need-without-ds-requires-3
+without-ds-requires-3 c κs = search needs
+
+returns : tie.Need-returns
+returns c = rw (c .without-ds3 .ensures, c .before .without-ds2 .ensures, c .before .before .without-ds .ensures)
+
+pub later-without-ds-spec : {M : Type 1} → statement M
+later-without-ds-spec =
+    tie.close (tie.spec without-ds-requires without-ds-requires-2 without-ds-requires-3 returns)

@@ -1,0 +1,58 @@
+use borrow.Author.Needs.{needs}
+use Rattle.arms.proofs.parts.segment_of.Statement.{statement}
+use Rattle.arms.proofs.parts.segment_of.Tie as tie
+use Rattle.arms.proofs.parts.segment_of.Reads as reads
+use Rattle.arms.proofs.parts.segment_of.Lts as lts
+
+enum-told : tie.Need-enum-told
+enum-told c = search needs
+
+enum-told-2 : tie.Need-enum-told-2
+enum-told-2 c = search needs
+
+enum-told-3 : tie.Need-enum-told-3
+enum-told-3 c = search needs
+
+enum-known-o : tie.Need-enum-known-o
+enum-known-o c = search needs
+
+enum-known-o-2 : tie.Need-enum-known-o-2
+enum-known-o-2 c = search needs
+
+enum-known-o-3 : tie.Need-enum-known-o-3
+enum-known-o-3 c = search needs
+
+returns : tie.Need-returns
+returns c = rw (c .enum-told .given .1)
+
+returns-2 : tie.Need-returns-2
+returns-2 c = rw (c .enum-told2 .given .1)
+
+returns-3 : tie.Need-returns-3
+returns-3 c = rw (c .enum-told3 .given .1)
+
+returns-4 : tie.Need-returns-4
+returns-4 c = rw (c .before .o .given .1)
+
+returns-5 : tie.Need-returns-5
+returns-5 c = rw (c .before .o2 .given .1)
+
+returns-6 : tie.Need-returns-6
+returns-6 c = rw (c .before .o3 .given .1)
+
+pub segment-of-spec : {M : Type 1} → statement M
+segment-of-spec =
+    tie.close
+    (tie.spec
+    enum-told
+    enum-told-2
+    enum-told-3
+    enum-known-o
+    enum-known-o-2
+    enum-known-o-3
+    returns
+    returns-2
+    returns-3
+    returns-4
+    returns-5
+    returns-6)

@@ -1,0 +1,39 @@
+use borrow.Author.Needs.{needs}
+use Rattle.arms.proofs.rewritten.branch.Statement.{statement}
+use Rattle.arms.proofs.rewritten.branch.Tie as tie
+use Rattle.arms.proofs.rewritten.branch.Reads as reads
+use Rattle.arms.proofs.rewritten.branch.Lts as lts
+use Rattle.arms.proofs.parts.bare_item.Reads as bare-item-reads
+use Rattle.arms.proofs.parts.immediate_kind.Reads as immediate-kind-reads
+use Rattle.arms.proofs.parts.immediate_of.Reads as immediate-of-reads
+use Rattle.arms.proofs.parts.one.Reads as one-reads
+use Rattle.branches.proofs.branch_shown.Reads as branch-shown-reads
+
+immediate-kind-requires : tie.Need-immediate-kind-requires
+immediate-kind-requires c κs = search needs
+
+immediate-of-requires : tie.Need-immediate-of-requires
+immediate-of-requires c κs = search needs
+
+branch-shown-requires : tie.Need-branch-shown-requires
+branch-shown-requires c κs = search needs
+
+bare-item-requires : tie.Need-bare-item-requires
+bare-item-requires c κs = search needs
+
+one-requires : tie.Need-one-requires
+one-requires c κs = search needs
+
+returns : tie.Need-returns
+returns c = rw (c .one .ensures, c .before .bare-item .ensures, c .before .before .branch-shown .ensures, c .before .before .before .immediate-of .ensures, c .before .before .before .before .immediate-kind .ensures)
+
+pub branch-spec : {M : Type 1} → statement M
+branch-spec =
+    tie.close
+    (tie.spec
+    immediate-kind-requires
+    immediate-of-requires
+    branch-shown-requires
+    bare-item-requires
+    one-requires
+    returns)

@@ -1,0 +1,21 @@
+use Rattle.arms.specs.Rewritten.{lssLabel}
+use borrow.Author.Tests.{ne-eqb}
+use Rattle.arms.proofs.rewritten.lss_label.Statement.{statement}
+use Rattle.arms.proofs.rewritten.lss_label.Tie as tie
+use Rattle.arms.proofs.rewritten.lss_label.Reads as reads
+use Rattle.arms.proofs.rewritten.lss_label.Lts as lts
+
+returns : tie.Need-returns
+unfolding lssLabel
+returns c = rw (c .match .keys1)
+
+returns-2 : tie.Need-returns-2
+unfolding lssLabel
+returns-2 c = rw (c .match .keys2)
+
+returns-3 : tie.Need-returns-3
+unfolding lssLabel
+returns-3 c = rw (ne-eqb _ _ (c .match .rest .0 .1), ne-eqb _ _ (c .match .rest .1))
+
+pub lss-label-spec : {M : Type 1} → statement M
+lss-label-spec = tie.close (tie.spec returns returns-2 returns-3)

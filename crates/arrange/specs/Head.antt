@@ -1,0 +1,48 @@
+-- The head of a line: prefix words, mnemonic and its suffix, from the record's flags and opcode and its arm.
+-- Assumes nothing.
+use mathlib.Core.Bool.{Bool, cond, not, _&&_, _||_}
+use mathlib.Core.List.{[], _∷_}
+use Prim.Native.Nat.{ℕ, _/_, _%_, _^_}
+use lib.Dec.{eqb}
+use Rattle.operands.specs.declared.Instruction.{Instruction}
+use Rattle.arms.specs.declared.Arm.{Arm}
+use Rattle.arms.specs.declared.Arm.the-variants.{Jmpf, Callf, Movs, Cmps, Feni as FeniArm, Fdisi as FdisiArm, Fsetpm as FsetpmArm, Scas, Lods, Incssp, Wrss, Pushf}
+use Rattle.arrange.specs.Among.{same, among}
+use Rattle.arrange.specs.declared.Head.{Head}
+use Rattle.arrange.specs.declared.Name.{Name}
+use Rattle.arrange.specs.declared.Name.the-variants.{Opcode, Feni, Fdisi, Fsetpm}
+
+-- "bit 0 xacquire, 1 xrelease, 2 lock, 3 rep, 4 repnz, 5 operand size", bit 0 the lowest
+abbrev pub bit : ℕ → ℕ → Bool
+bit k flags = eqb (flags / 2 ^ k % 2) 1
+
+-- "`can_rep`: MOVS CMPS SCAS LODS STOS INS OUTS"
+abbrev pub canRep : Arm → Bool
+canRep arm = among arm (Movs ∷ Cmps ∷ Scas ∷ Lods ∷ [])
+
+-- JMPF and CALLF print `jmp` and `call`, the three FENI8087_NOP words of their own, every other opcode its own name
+abbrev pub nameOf : Arm → ℕ → Name
+nameOf arm opcode =
+    cond (same arm Jmpf) (Opcode 0)
+    (cond (same arm Callf) (Opcode 1)
+    (cond (same arm FeniArm) Feni
+    (cond (same arm FdisiArm) Fdisi
+    (cond (same arm FsetpmArm) Fsetpm
+    (Opcode opcode)))))
+
+-- a `d` behind INCSSP, WRSS, WRUSS, and behind PUSHF unless the operand size flag is set
+abbrev pub suffixed : Arm → ℕ → Bool
+suffixed arm flags = among arm (Incssp ∷ Wrss ∷ []) || same arm Pushf && not (bit 5 flags)
+
+-- the prefix words in the printed order, "both rep flags print rep"; then the name and its suffix
+unfoldable pub headOf : Arm → Instruction → Head
+headOf arm i =
+    record {
+      xacquire = bit 0 (i .flags);
+      xrelease = bit 1 (i .flags);
+      lock = bit 2 (i .flags);
+      rep = canRep arm && bit 3 (i .flags);
+      repne = canRep arm && (not (bit 3 (i .flags)) && bit 4 (i .flags));
+      name = nameOf arm (i .opcode);
+      suffix = suffixed arm (i .flags);
+    }

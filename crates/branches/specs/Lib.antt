@@ -1,0 +1,2 @@
+-- The branch sums of both modes. Definitions only: the laws are in proofs/.
+pub mod Sums

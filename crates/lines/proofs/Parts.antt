@@ -1,0 +1,85 @@
+-- The parts of a line's text: their cases and their lengths.
+-- Assumes nothing.
+use mathlib.Core.Path.{_≡_, refl, sym, ap, _∙_}
+use mathlib.Core.Bool.{Bool, true, false}
+use mathlib.Core.List.{List, [], _++_}
+use Prim.Native.Nat.{ℕ, _+_, _≤_}
+use native.Mathlib.Nat.{add-assoc}
+use native.Mathlib.Omega.{arith}
+use lib.ListN.{length, length-append}
+use Rattle.text.specs.Choice.{pick, when}
+use Rattle.text.specs.Words.{bytes}
+use Rattle.text.proofs.Choosing.{length-when}
+use Rattle.names.specs.Words.{prefixes, prefixWord}
+use Rattle.operands.specs.declared.Item.{Item}
+use Rattle.operands.specs.declared.Items.{Items}
+use Rattle.items.specs.Items.{itemText}
+use Rattle.arrange.specs.declared.Head.{Head}
+use Rattle.arrange.specs.declared.Line.{Line}
+use Rattle.lines.specs.Text.{prefixesText, nameText, headText, shows, partedText, itemsText, lineText}
+
+-- a prefix as the table of prefixes has it
+abbrev pub prefixText : Bool → ℕ → List ℕ
+prefixText wanted k = when wanted (prefixWord k ++ bytes " ")
+
+pub prefixes-by : (h : Head) → prefixesText h ≡ prefixText (h .xacquire) 0 ++ (prefixText (h .xrelease) 1 ++ (prefixText (h .lock) 2 ++ (prefixText (h .rep) 3 ++ prefixText (h .repne) 4)))
+unfolding prefixesText prefixWord prefixes
+prefixes-by h = refl
+
+pub parted-shown : (s : List ℕ) (i : Item) {b : Bool} → b ≡ shows (i .shown) → b ≡ true → partedText s i ≡ s ++ itemText i
+unfolding partedText
+parted-shown s i e t = rw (← e, t)
+
+pub parted-hidden : (s : List ℕ) (i : Item) {b : Bool} → b ≡ shows (i .shown) → b ≡ false → partedText s i ≡ []
+unfolding partedText
+parted-hidden s i e t = rw (← e, t)
+
+-- lengths
+pub prefixes-length : (h : Head) → length (prefixesText h) ≡ pick (h .xacquire) 9 0 + pick (h .xrelease) 9 0 + pick (h .lock) 5 0 + pick (h .rep) 4 0 + pick (h .repne) 6 0
+unfolding prefixesText
+prefixes-length h =
+    let xacquire = when (h .xacquire) (bytes "xacquire ") in
+    let xrelease = when (h .xrelease) (bytes "xrelease ") in
+    let lock = when (h .lock) (bytes "lock ") in
+    let rep = when (h .rep) (bytes "rep ") in
+    let repne = when (h .repne) (bytes "repne ") in
+    omega (
+      arith,
+      length-append xacquire (xrelease ++ (lock ++ (rep ++ repne))),
+      length-append xrelease (lock ++ (rep ++ repne)),
+      length-append lock (rep ++ repne),
+      length-append rep repne,
+      length-when (h .xacquire) (bytes "xacquire "),
+      length-when (h .xrelease) (bytes "xrelease "),
+      length-when (h .lock) (bytes "lock "),
+      length-when (h .rep) (bytes "rep "),
+      length-when (h .repne) (bytes "repne "),
+    )
+
+pub head-length : (h : Head) → length (headText h) ≡ length (prefixesText h) + length (nameText (h .name)) + pick (h .suffix) 1 0
+unfolding headText
+head-length h =
+    omega (
+      arith,
+      length-append (prefixesText h) (nameText (h .name) ++ when (h .suffix) (bytes "d")),
+      length-append (nameText (h .name)) (when (h .suffix) (bytes "d")),
+      length-when (h .suffix) (bytes "d"),
+    )
+
+pub parted-length : (s : List ℕ) (i : Item) → length (partedText s i) ≡ pick (shows (i .shown)) (length s + length (itemText i)) 0
+unfolding partedText
+parted-length s i =
+    length-when (shows (i .shown)) (s ++ itemText i) ∙ ap (λ (n : ℕ). pick (shows (i .shown)) n 0) (length-append s (itemText i))
+
+pub items-length : (is : Items) → length (itemsText is) ≡ length (partedText (bytes " ") (is .a)) + length (partedText (bytes ", ") (is .b)) + length (partedText (bytes ", ") (is .c)) + length (partedText (bytes ", ") (is .d))
+unfolding itemsText
+items-length is =
+    let a = partedText (bytes " ") (is .a) in
+    let b = partedText (bytes ", ") (is .b) in
+    let c = partedText (bytes ", ") (is .c) in
+    let d = partedText (bytes ", ") (is .d) in
+    omega (arith, length-append a (b ++ (c ++ d)), length-append b (c ++ d), length-append c d)
+
+pub line-length : (l : Line) → length (lineText l) ≡ length (headText (l .head)) + length (itemsText (l .items))
+unfolding lineText
+line-length l = length-append (headText (l .head)) (itemsText (l .items))

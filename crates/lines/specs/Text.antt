@@ -1,0 +1,58 @@
+-- The text of what a line shows: prefix words, mnemonic and suffix, operands.
+-- Assumes nothing.
+use mathlib.Core.Bool.{Bool, true, false}
+use mathlib.Core.List.{List, [], _++_}
+use Prim.Native.Nat.{ℕ}
+use Rattle.text.specs.Choice.{when}
+use Rattle.text.specs.Words.{bytes}
+use Rattle.names.specs.Mnemonics.{mnemonic}
+use Rattle.operands.specs.declared.Shown.{Shown}
+use Rattle.operands.specs.declared.Shown.the-variants.{Nothing, Name, St, Number, Word, Dword, Bracket, Branch}
+use Rattle.operands.specs.declared.Item.{Item}
+use Rattle.operands.specs.declared.Items.{Items}
+use Rattle.items.specs.Items.{itemText}
+use Rattle.arrange.specs.declared.Head.{Head}
+use Rattle.arrange.specs.declared.Line.{Line}
+use Rattle.arrange.specs.declared.Name.{Name as Mnemonic}
+use Rattle.arrange.specs.declared.Name.the-variants.{Opcode, Feni, Fdisi, Fsetpm}
+
+-- the prefix words in the printed order, a blank behind each
+unfoldable pub prefixesText : Head → List ℕ
+prefixesText h =
+    when (h .xacquire) (bytes "xacquire ")
+    ++ (when (h .xrelease) (bytes "xrelease ") ++ (when (h .lock) (bytes "lock ") ++ (when (h .rep) (bytes "rep ") ++ when (h .repne) (bytes "repne "))))
+
+-- the name of an opcode, or one of the three words that are no opcode's name
+unfoldable pub nameText : Mnemonic → List ℕ
+nameText (Opcode opcode) = mnemonic opcode
+nameText Feni = bytes "feni"
+nameText Fdisi = bytes "fdisi"
+nameText Fsetpm = bytes "fsetpm"
+
+-- what stands before the operands
+unfoldable pub headText : Head → List ℕ
+headText h = prefixesText h ++ (nameText (h .name) ++ when (h .suffix) (bytes "d"))
+
+-- something is shown
+abbrev pub shows : Shown → Bool
+shows Nothing = false
+shows (Name reg) = true
+shows St = true
+shows (Number value) = true
+shows (Word address) = true
+shows (Dword address) = true
+shows (Bracket address) = true
+shows (Branch near minus size) = true
+
+-- an operand that shows something, behind what parts it from the text before
+unfoldable pub partedText : List ℕ → Item → List ℕ
+partedText separator i = when (shows (i .shown)) (separator ++ itemText i)
+
+-- the operands, the first behind a blank and the others behind ", "
+unfoldable pub itemsText : Items → List ℕ
+itemsText is =
+    partedText (bytes " ") (is .a)
+    ++ (partedText (bytes ", ") (is .b) ++ (partedText (bytes ", ") (is .c) ++ partedText (bytes ", ") (is .d)))
+
+unfoldable pub lineText : Line → List ℕ
+lineText l = headText (l .head) ++ itemsText (l .items)
