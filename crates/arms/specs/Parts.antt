@@ -31,7 +31,7 @@ segmentOf (Absolute16 segment address) = segment
 segmentOf (Absolute32 segment address) = segment
 segmentOf (Memory segment address) = segment
 
--- the register byte of kinds 1 and 2
+-- the register byte of kinds 1 and 2, and 0 of any other operand
 abbrev pub registerOf : Operand → ℕ
 registerOf Absent = 0
 registerOf (Register place reg) = reg
@@ -53,7 +53,7 @@ immediateKind (Absolute16 segment address) = 0
 immediateKind (Absolute32 segment address) = 0
 immediateKind (Memory segment address) = 0
 
--- the value of an immediate
+-- the value of an immediate, and 0 of any other operand
 abbrev pub immediateOf : Operand → ℕ
 immediateOf Absent = 0
 immediateOf (Register place reg) = 0
@@ -66,7 +66,7 @@ immediateOf (Memory segment address) = 0
 abbrev pub item : Label → ℕ → Shown → Item
 item label segment shown = record { label = label; segment = segment; shown = shown }
 
--- no label and no segment
+-- what is shown with no label and no segment
 abbrev pub bare : Shown → Item
 bare shown = item None 0 shown
 
@@ -97,21 +97,26 @@ sizeLabel size =
     (cond (eqb size 32) Ymmword
     (cond (eqb size 64) Zmmword Missing))))))
 
--- the operands of a line from the left; behind them nothing is shown
+-- an operand that the line does not have
 abbrev pub nothing : Item
 nothing = bare shown.Nothing
 
+-- the operands of a line, from the left
 abbrev pub four : Item → Item → Item → Item → Items
 four a b c d = record { a = a; b = b; c = c; d = d }
 
+-- no operand
 abbrev pub none : Items
 none = four nothing nothing nothing nothing
 
+-- one operand alone
 abbrev pub one : Item → Items
 one a = four a nothing nothing nothing
 
+-- two operands alone
 abbrev pub two : Item → Item → Items
 two a b = four a b nothing nothing
 
+-- three operands alone
 abbrev pub three : Item → Item → Item → Items
 three a b c = four a b c nothing

@@ -51,7 +51,8 @@ use Rattle.arms.specs.Parts.{shownOf, item, plain, labelled, labelledMem
 use Rattle.arms.specs.General.{general, generally, hasVector, laterWithoutDs}
 use Rattle.arms.specs.Rewritten.{isBranch, isXbegin, branch, lsl, lssLabel, tbyteLabel, fadd, fbld}
 
--- The registers that arms show by themselves are eax 0, ecx 1, edx 2 and xmm0 48.
+-- What an arm shows, by the mode (`straight` is mode 1), the arm and the record. Operands that are shown stand at the front. The
+-- registers that arms show by themselves are eax 0, ecx 1, edx 2 and xmm0 48.
 unfoldable pub itemsOf : Bool → Arm → Instruction → Items
 -- the general path and what it does for single opcodes
 itemsOf straight General i = generally i

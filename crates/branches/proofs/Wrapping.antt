@@ -9,7 +9,7 @@ use native.Mathlib.Nat.{mod-lt, mod-eq-of-lt, mod-eq-sub-mod, mod-add-mod}
 use native.Mathlib.Decide.{decLt}
 use native.Mathlib.Omega.{arith}
 use borrow.Author.Tests.{lt-ltb, le-ltb}
-use lib.Dec.{ltb}
+use lib.Dec.{ltb, lit<}
 use lib.IntN.{ℤ, pos, negsuc, subℕ, _+ℤ_, _-ℤ_, negℤ}
 use Rattle.branches.specs.Sums.{signed}
 
@@ -68,9 +68,6 @@ module _ (w : ℕ) (halves : 2 ^ w ≡ 2 ^ (w - 1) + 2 ^ (w - 1)) (some : 0 < 2 
       ]
 
   module _ (n l : ℕ) (once : l < 2 ^ w) where
-    Wrapped : Type 0
-    Wrapped = (signed w (n + l) ≡ signed w n +ℤ pos l) ⊎ (signed w (n + l) ≡ signed w n +ℤ pos l -ℤ pos (2 ^ w))
-
     kept : (e f : ℕ) → signed w n ≡ subℕ (n % 2 ^ w) e → signed w (n + l) ≡ subℕ ((n + l) % 2 ^ w) f → (n + l) % 2 ^ w + e ≡ n % 2 ^ w + l + f → signed w (n + l) ≡ signed w n +ℤ pos l
     kept e f before after same =
         after ∙ same-difference _ f _ e same ∙ sym (difference-plus _ e l) ∙ ap (λ (z : ℤ). z +ℤ pos l) (sym before)
@@ -79,3 +76,43 @@ module _ (w : ℕ) (halves : 2 ^ w ≡ 2 ^ (w - 1) + 2 ^ (w - 1)) (some : 0 < 2 
     less-once e f before after same =
         after ∙ same-difference _ f _ (e + 2 ^ w) same ∙ sym (difference-minus _ e (2 ^ w) some)
         ∙ ap (λ (z : ℤ). z -ℤ pos (2 ^ w)) (sym (difference-plus _ e l) ∙ ap (λ (z : ℤ). z +ℤ pos l) (sym before))
+
+    pub wrapped : (signed w (n + l) ≡ signed w n +ℤ pos l) ⊎ (signed w (n + l) ≡ signed w n +ℤ pos l -ℤ pos (2 ^ w))
+    wrapped =
+        let bound = mod-lt n some in
+        let under : n % 2 ^ w + l < 2 ^ w → (n + l) % 2 ^ w ≡ n % 2 ^ w + l =
+        λ h. sym (mod-add-mod n (2 ^ w) l) ∙ mod-eq-of-lt h in
+        let over : 2 ^ w ≤ n % 2 ^ w + l → (n + l) % 2 ^ w ≡ n % 2 ^ w + l - 2 ^ w =
+        λ h. sym (mod-add-mod n (2 ^ w) l) ∙ mod-eq-sub-mod h ∙ mod-eq-of-lt (omega arith) in
+        elim (decLt (n % 2 ^ w) (2 ^ (w - 1))) [
+          | yes a ↦
+              elim (decLt (n % 2 ^ w + l) (2 ^ w)) [
+                | yes b ↦
+                    elim (decLt ((n + l) % 2 ^ w) (2 ^ (w - 1))) [
+                      | yes c ↦ inl (kept 0 0 (low n a) (low (n + l) c) (omega (arith, under b)))
+                      | no c ↦ inr (less-once 0 (2 ^ w) (low n a) (high (n + l) (omega arith)) (omega (arith, under b)))
+                    ]
+                | no b ↦
+                    let back = over (omega arith) in
+                    inr (less-once 0 0 (low n a) (low (n + l) (omega arith)) (omega arith))
+              ]
+          | no a ↦
+              elim (decLt (n % 2 ^ w + l) (2 ^ w)) [
+                | yes b ↦
+                    let on = under b in
+                    inl (kept (2 ^ w) (2 ^ w) (high n (omega arith)) (high (n + l) (omega arith)) (omega arith))
+                | no b ↦
+                    let back = over (omega arith) in
+                    elim (decLt ((n + l) % 2 ^ w) (2 ^ (w - 1))) [
+                      | yes c ↦ inl (kept (2 ^ w) 0 (high n (omega arith)) (low (n + l) c) (omega arith))
+                      | no c ↦ inr (less-once (2 ^ w) (2 ^ w) (high n (omega arith)) (high (n + l) (omega arith)) (omega arith))
+                    ]
+              ]
+        ]
+
+-- the two widths of mode 0
+pub wrapped-8 : (value length : ℕ) → length < 2 ^ 8 → (signed 8 (value + length) ≡ signed 8 value +ℤ pos length) ⊎ (signed 8 (value + length) ≡ signed 8 value +ℤ pos length -ℤ pos (2 ^ 8))
+wrapped-8 = wrapped 8 refl (lit< tt)
+
+pub wrapped-32 : (value length : ℕ) → length < 2 ^ 32 → (signed 32 (value + length) ≡ signed 32 value +ℤ pos length) ⊎ (signed 32 (value + length) ≡ signed 32 value +ℤ pos length -ℤ pos (2 ^ 32))
+wrapped-32 = wrapped 32 refl (lit< tt)

@@ -1,2 +1,3 @@
 pub mod Labelling
 pub mod Parts
+pub mod Short

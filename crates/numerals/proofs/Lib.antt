@@ -2,3 +2,4 @@ pub mod Places
 pub mod Texts
 pub mod Signed
 pub mod Examples
+pub mod Short

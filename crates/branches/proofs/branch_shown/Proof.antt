@@ -1,13 +1,10 @@
+-- `branches::branch_shown` meets its contract: at each return, what was called ensures and what was tested give the definition's case.
+-- Assumes nothing.
 use borrow.Author.Needs.{needs}
 use borrow.Author.Tests.{eq-eqb, ne-eqb}
 use Rattle.branches.specs.Sums.{branchSum, branchShown}
 use Rattle.branches.proofs.branch_shown.Statement.{statement}
 use Rattle.branches.proofs.branch_shown.Tie as tie
-use Rattle.branches.proofs.branch_shown.Reads as reads
-use Rattle.branches.proofs.branch_shown.Lts as lts
-use Rattle.branches.proofs.long_sum.Reads as long-sum-reads
-use Rattle.branches.proofs.short_sum.Reads as short-sum-reads
-use Rattle.branches.proofs.whole_sum.Reads as whole-sum-reads
 
 whole-sum-requires : tie.Need-whole-sum-requires
 whole-sum-requires c κs = search needs

@@ -1,3 +1,5 @@
+-- `branches::long_sum` meets its contract: at each return, what was called ensures and what was tested give the definition's case.
+-- Assumes nothing.
 use mathlib.Core.Path.{_≡_, sym, _∙_}
 use Prim.Native.Nat.{_+_}
 use native.Mathlib.Omega.{arith}
@@ -6,11 +8,6 @@ use Rattle.branches.proofs.Sums.{shown-low, shown-high}
 use borrow.Author.Needs.{needs}
 use Rattle.branches.proofs.long_sum.Statement.{statement}
 use Rattle.branches.proofs.long_sum.Tie as tie
-use Rattle.branches.proofs.long_sum.Reads as reads
-use Rattle.branches.proofs.long_sum.Lts as lts
-use Rattle.branches.proofs.backward.Reads as backward-reads
-use Rattle.branches.proofs.forward.Reads as forward-reads
-use Rattle.std.proofs.num.wrapping_add_u32.Reads as wrapping-add-u32-reads
 
 wrapping-add-u32-requires : tie.Need-wrapping-add-u32-requires
 wrapping-add-u32-requires c κs = search needs

@@ -1,3 +1,5 @@
+-- `branches::short_sum` meets its contract: at each return, what was called ensures and what was tested give the definition's case.
+-- Assumes nothing.
 use mathlib.Core.Path.{_≡_, sym, _∙_}
 use Prim.Native.Nat.{_+_}
 use native.Mathlib.Omega.{arith}
@@ -5,11 +7,6 @@ use Rattle.branches.proofs.Sums.{shown-low, shown-high}
 use borrow.Author.Needs.{needs}
 use Rattle.branches.proofs.short_sum.Statement.{statement}
 use Rattle.branches.proofs.short_sum.Tie as tie
-use Rattle.branches.proofs.short_sum.Reads as reads
-use Rattle.branches.proofs.short_sum.Lts as lts
-use Rattle.branches.proofs.backward.Reads as backward-reads
-use Rattle.branches.proofs.forward.Reads as forward-reads
-use Rattle.std.proofs.num.wrapping_add_u8.Reads as wrapping-add-u8-reads
 
 cast-distance : tie.Need-cast-distance
 cast-distance c = search needs

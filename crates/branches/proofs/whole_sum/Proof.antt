@@ -1,3 +1,5 @@
+-- `branches::whole_sum` meets its contract: at each return, what was called ensures and what was tested give the definition's case.
+-- Assumes nothing.
 use mathlib.Core.Path.{_≡_, sym, ap, _∙_}
 use Prim.Native.Nat.{_+_, _-_}
 use native.Mathlib.Omega.{arith}
@@ -6,10 +8,6 @@ use Rattle.branches.proofs.Sums.{whole-low, whole-over, shown-back}
 use borrow.Author.Needs.{needs}
 use Rattle.branches.proofs.whole_sum.Statement.{statement}
 use Rattle.branches.proofs.whole_sum.Tie as tie
-use Rattle.branches.proofs.whole_sum.Reads as reads
-use Rattle.branches.proofs.whole_sum.Lts as lts
-use Rattle.branches.proofs.backward.Reads as backward-reads
-use Rattle.branches.proofs.forward.Reads as forward-reads
 
 add-forward : tie.Need-add-forward
 add-forward c = search needs

@@ -1,11 +1,9 @@
+-- `arms::fpu::is_st0` meets its contract: at each return, what was called ensures and what was tested give the definition's case.
+-- Assumes nothing.
 use Rattle.arms.proofs.Said.{said}
 use borrow.Author.Needs.{needs}
 use Rattle.arms.proofs.fpu.is_st0.Statement.{statement}
 use Rattle.arms.proofs.fpu.is_st0.Tie as tie
-use Rattle.arms.proofs.fpu.is_st0.Reads as reads
-use Rattle.arms.proofs.fpu.is_st0.Lts as lts
-use Rattle.arms.proofs.parts.register_of.Reads as register-of-reads
-use Rattle.operands.proofs.kinds.is_register.Reads as is-register-reads
 
 is-register-requires : tie.Need-is-register-requires
 is-register-requires c κs = search needs

@@ -1,12 +1,9 @@
+-- `arms::fpu::plain_or_st` meets its contract: at each return, what was called ensures and what was tested give the definition's case.
+-- Assumes nothing.
 use Rattle.arms.proofs.Said.{said}
 use borrow.Author.Needs.{needs}
 use Rattle.arms.proofs.fpu.plain_or_st.Statement.{statement}
 use Rattle.arms.proofs.fpu.plain_or_st.Tie as tie
-use Rattle.arms.proofs.fpu.plain_or_st.Reads as reads
-use Rattle.arms.proofs.fpu.plain_or_st.Lts as lts
-use Rattle.arms.proofs.fpu.is_st0.Reads as is-st0-reads
-use Rattle.arms.proofs.parts.bare_item.Reads as bare-item-reads
-use Rattle.arms.proofs.parts.plain.Reads as plain-reads
 
 is-st0-requires : tie.Need-is-st0-requires
 is-st0-requires c κs = search needs

@@ -1,11 +1,9 @@
+-- `arms::general::by_registers` meets its contract: at each return, what was called ensures and what was tested give the definition's case.
+-- Assumes nothing.
 use Rattle.arms.proofs.Mmword.{general-at-8}
 use borrow.Author.Needs.{needs}
 use Rattle.arms.proofs.general.by_registers.Statement.{statement}
 use Rattle.arms.proofs.general.by_registers.Tie as tie
-use Rattle.arms.proofs.general.by_registers.Reads as reads
-use Rattle.arms.proofs.general.by_registers.Lts as lts
-use Rattle.arms.proofs.general.general.Reads as general-reads
-use Rattle.arms.proofs.general.wants_mmword.Reads as wants-mmword-reads
 
 wants-mmword-requires : tie.Need-wants-mmword-requires
 wants-mmword-requires c κs = search needs

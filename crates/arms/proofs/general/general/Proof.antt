@@ -1,11 +1,9 @@
+-- `arms::general::general` meets its contract: at each return, what was called ensures and what was tested give the definition's case.
+-- Assumes nothing.
 use Rattle.arms.specs.General.{general}
 use borrow.Author.Needs.{needs}
 use Rattle.arms.proofs.general.general.Statement.{statement}
 use Rattle.arms.proofs.general.general.Tie as tie
-use Rattle.arms.proofs.general.general.Reads as reads
-use Rattle.arms.proofs.general.general.Lts as lts
-use Rattle.arms.proofs.general.general_label.Reads as general-label-reads
-use Rattle.arms.proofs.parts.labelled_memory.Reads as labelled-memory-reads
 
 general-label-requires : tie.Need-general-label-requires
 general-label-requires c κs = search needs

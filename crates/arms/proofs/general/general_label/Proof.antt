@@ -1,12 +1,11 @@
+-- `arms::general::general_label` meets its contract: at each return, what was called ensures and what was tested give the definition's case.
+-- Assumes nothing.
 use Rattle.arms.specs.Parts.{sizeLabel}
 use Rattle.arms.specs.General.{generalLabel}
 use borrow.Author.Tests.{ne-eqb}
 use borrow.Author.Needs.{needs}
 use Rattle.arms.proofs.general.general_label.Statement.{statement}
 use Rattle.arms.proofs.general.general_label.Tie as tie
-use Rattle.arms.proofs.general.general_label.Reads as reads
-use Rattle.arms.proofs.general.general_label.Lts as lts
-use Rattle.arms.proofs.parts.size_label.Reads as size-label-reads
 
 size-label-requires : tie.Need-size-label-requires
 size-label-requires c κs = search needs

@@ -1,10 +1,9 @@
+-- `arms::general::has_vector` meets its contract: at each return, what was called ensures and what was tested give the definition's case.
+-- Assumes nothing.
 use Rattle.arms.proofs.Said.{said}
 use borrow.Author.Needs.{needs}
 use Rattle.arms.proofs.general.has_vector.Statement.{statement}
 use Rattle.arms.proofs.general.has_vector.Tie as tie
-use Rattle.arms.proofs.general.has_vector.Reads as reads
-use Rattle.arms.proofs.general.has_vector.Lts as lts
-use Rattle.arms.proofs.general.is_vector.Reads as is-vector-reads
 
 is-vector-requires : tie.Need-is-vector-requires
 is-vector-requires c κs = search needs

@@ -1,12 +1,10 @@
+-- `arms::general::is_vector` meets its contract: at each return, what was called ensures and what was tested give the definition's case.
+-- Assumes nothing.
 use borrow.Author.Tests.{le-leb, lt-leb}
 use Rattle.arms.proofs.Said.{said}
 use borrow.Author.Needs.{needs}
 use Rattle.arms.proofs.general.is_vector.Statement.{statement}
 use Rattle.arms.proofs.general.is_vector.Tie as tie
-use Rattle.arms.proofs.general.is_vector.Reads as reads
-use Rattle.arms.proofs.general.is_vector.Lts as lts
-use Rattle.arms.proofs.parts.register_of.Reads as register-of-reads
-use Rattle.operands.proofs.kinds.is_register.Reads as is-register-reads
 
 is-register-requires : tie.Need-is-register-requires
 is-register-requires c κs = search needs

@@ -1,9 +1,8 @@
+-- `arms::general::later_without_ds` meets its contract: at each return, what was called ensures and what was tested give the definition's case.
+-- Assumes nothing.
 use borrow.Author.Needs.{needs}
 use Rattle.arms.proofs.general.later_without_ds.Statement.{statement}
 use Rattle.arms.proofs.general.later_without_ds.Tie as tie
-use Rattle.arms.proofs.general.later_without_ds.Reads as reads
-use Rattle.arms.proofs.general.later_without_ds.Lts as lts
-use Rattle.arms.proofs.general.without_ds.Reads as without-ds-reads
 
 without-ds-requires : tie.Need-without-ds-requires
 without-ds-requires c κs = search needs

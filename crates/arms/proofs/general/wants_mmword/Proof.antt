@@ -1,10 +1,9 @@
+-- `arms::general::wants_mmword` meets its contract: at each return, what was called ensures and what was tested give the definition's case.
+-- Assumes nothing.
 use borrow.Author.Tests.{eq-eqb, ne-eqb}
 use borrow.Author.Needs.{needs}
 use Rattle.arms.proofs.general.wants_mmword.Statement.{statement}
 use Rattle.arms.proofs.general.wants_mmword.Tie as tie
-use Rattle.arms.proofs.general.wants_mmword.Reads as reads
-use Rattle.arms.proofs.general.wants_mmword.Lts as lts
-use Rattle.arms.proofs.general.has_vector.Reads as has-vector-reads
 
 has-vector-requires : tie.Need-has-vector-requires
 has-vector-requires c κs = search needs

@@ -1,8 +1,8 @@
+-- `arms::general::without_ds` meets its contract: at each return, what was called ensures and what was tested give the definition's case.
+-- Assumes nothing.
 use borrow.Author.Tests.{eq-eqb, ne-eqb}
 use Rattle.arms.proofs.general.without_ds.Statement.{statement}
 use Rattle.arms.proofs.general.without_ds.Tie as tie
-use Rattle.arms.proofs.general.without_ds.Reads as reads
-use Rattle.arms.proofs.general.without_ds.Lts as lts
 
 returns : tie.Need-returns
 returns c = rw (eq-eqb _ _ (c .if1 .taken))

@@ -1,10 +1,8 @@
+-- `arms::parts::labelled` meets its contract: at each return, what was called ensures and what was tested give the definition's case.
+-- Assumes nothing.
 use borrow.Author.Needs.{needs}
 use Rattle.arms.proofs.parts.labelled.Statement.{statement}
 use Rattle.arms.proofs.parts.labelled.Tie as tie
-use Rattle.arms.proofs.parts.labelled.Reads as reads
-use Rattle.arms.proofs.parts.labelled.Lts as lts
-use Rattle.arms.proofs.parts.segment_of.Reads as segment-of-reads
-use Rattle.arms.proofs.parts.shown_of.Reads as shown-of-reads
 
 segment-of-requires : tie.Need-segment-of-requires
 segment-of-requires c κs = search needs

@@ -1,12 +1,9 @@
+-- `arms::parts::labelled_memory` meets its contract: at each return, what was called ensures and what was tested give the definition's case.
+-- Assumes nothing.
 use Rattle.arms.proofs.Said.{said}
 use borrow.Author.Needs.{needs}
 use Rattle.arms.proofs.parts.labelled_memory.Statement.{statement}
 use Rattle.arms.proofs.parts.labelled_memory.Tie as tie
-use Rattle.arms.proofs.parts.labelled_memory.Reads as reads
-use Rattle.arms.proofs.parts.labelled_memory.Lts as lts
-use Rattle.arms.proofs.parts.labelled.Reads as labelled-reads
-use Rattle.arms.proofs.parts.plain.Reads as plain-reads
-use Rattle.operands.proofs.kinds.is_memory.Reads as is-memory-reads
 
 is-memory-requires : tie.Need-is-memory-requires
 is-memory-requires c κs = search needs

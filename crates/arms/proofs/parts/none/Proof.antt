@@ -1,10 +1,8 @@
+-- `arms::parts::none` meets its contract: at each return, what was called ensures and what was tested give the definition's case.
+-- Assumes nothing.
 use borrow.Author.Needs.{needs}
 use Rattle.arms.proofs.parts.none.Statement.{statement}
 use Rattle.arms.proofs.parts.none.Tie as tie
-use Rattle.arms.proofs.parts.none.Reads as reads
-use Rattle.arms.proofs.parts.none.Lts as lts
-use Rattle.arms.proofs.parts.nothing.Reads as nothing-reads
-use Rattle.arms.proofs.parts.one.Reads as one-reads
 
 nothing-requires : tie.Need-nothing-requires
 nothing-requires c κs = search needs

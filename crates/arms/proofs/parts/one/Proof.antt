@@ -1,10 +1,8 @@
+-- `arms::parts::one` meets its contract: at each return, what was called ensures and what was tested give the definition's case.
+-- Assumes nothing.
 use borrow.Author.Needs.{needs}
 use Rattle.arms.proofs.parts.one.Statement.{statement}
 use Rattle.arms.proofs.parts.one.Tie as tie
-use Rattle.arms.proofs.parts.one.Reads as reads
-use Rattle.arms.proofs.parts.one.Lts as lts
-use Rattle.arms.proofs.parts.nothing.Reads as nothing-reads
-use Rattle.arms.proofs.parts.two.Reads as two-reads
 
 nothing-requires : tie.Need-nothing-requires
 nothing-requires c κs = search needs

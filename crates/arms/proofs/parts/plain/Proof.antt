@@ -1,10 +1,8 @@
+-- `arms::parts::plain` meets its contract: at each return, what was called ensures and what was tested give the definition's case.
+-- Assumes nothing.
 use borrow.Author.Needs.{needs}
 use Rattle.arms.proofs.parts.plain.Statement.{statement}
 use Rattle.arms.proofs.parts.plain.Tie as tie
-use Rattle.arms.proofs.parts.plain.Reads as reads
-use Rattle.arms.proofs.parts.plain.Lts as lts
-use Rattle.arms.proofs.parts.bare_item.Reads as bare-item-reads
-use Rattle.arms.proofs.parts.shown_of.Reads as shown-of-reads
 
 shown-of-requires : tie.Need-shown-of-requires
 shown-of-requires c κs = search needs

@@ -1,8 +1,8 @@
+-- `arms::parts::segment_of` meets its contract: at each return, what was called ensures and what was tested give the definition's case.
+-- Assumes nothing.
 use borrow.Author.Needs.{needs}
 use Rattle.arms.proofs.parts.segment_of.Statement.{statement}
 use Rattle.arms.proofs.parts.segment_of.Tie as tie
-use Rattle.arms.proofs.parts.segment_of.Reads as reads
-use Rattle.arms.proofs.parts.segment_of.Lts as lts
 
 enum-told : tie.Need-enum-told
 enum-told c = search needs

@@ -1,9 +1,9 @@
+-- `arms::parts::size_label` meets its contract: at each return, what was called ensures and what was tested give the definition's case.
+-- Assumes nothing.
 use borrow.Author.Tests.{ne-eqb}
 use Rattle.arms.specs.Parts.{sizeLabel}
 use Rattle.arms.proofs.parts.size_label.Statement.{statement}
 use Rattle.arms.proofs.parts.size_label.Tie as tie
-use Rattle.arms.proofs.parts.size_label.Reads as reads
-use Rattle.arms.proofs.parts.size_label.Lts as lts
 
 returns : tie.Need-returns
 unfolding sizeLabel

@@ -1,12 +1,10 @@
+-- `arms::rewritten::aam` meets its contract: at each return, what was called ensures and what was tested give the definition's case.
+-- Assumes nothing.
 use Rattle.arms.specs.Shows.{itemsOf}
 use borrow.Author.Tests.{eq-eqb, ne-eqb}
 use borrow.Author.Needs.{needs}
 use Rattle.arms.proofs.rewritten.aam.Statement.{statement}
 use Rattle.arms.proofs.rewritten.aam.Tie as tie
-use Rattle.arms.proofs.rewritten.aam.Reads as reads
-use Rattle.arms.proofs.rewritten.aam.Lts as lts
-use Rattle.arms.proofs.general.generally.Reads as generally-reads
-use Rattle.arms.proofs.parts.none.Reads as none-reads
 
 none-requires : tie.Need-none-requires
 none-requires c κs = search needs

@@ -1,13 +1,8 @@
+-- `arms::rewritten::branch` meets its contract: at each return, what was called ensures and what was tested give the definition's case.
+-- Assumes nothing.
 use borrow.Author.Needs.{needs}
 use Rattle.arms.proofs.rewritten.branch.Statement.{statement}
 use Rattle.arms.proofs.rewritten.branch.Tie as tie
-use Rattle.arms.proofs.rewritten.branch.Reads as reads
-use Rattle.arms.proofs.rewritten.branch.Lts as lts
-use Rattle.arms.proofs.parts.bare_item.Reads as bare-item-reads
-use Rattle.arms.proofs.parts.immediate_kind.Reads as immediate-kind-reads
-use Rattle.arms.proofs.parts.immediate_of.Reads as immediate-of-reads
-use Rattle.arms.proofs.parts.one.Reads as one-reads
-use Rattle.branches.proofs.branch_shown.Reads as branch-shown-reads
 
 immediate-kind-requires : tie.Need-immediate-kind-requires
 immediate-kind-requires c κs = search needs

@@ -1,16 +1,10 @@
+-- `arms::rewritten::lsl` meets its contract: at each return, what was called ensures and what was tested give the definition's case.
+-- Assumes nothing.
 use Rattle.arms.specs.Shows.{itemsOf}
 use Rattle.arms.proofs.Said.{said}
 use borrow.Author.Needs.{needs}
 use Rattle.arms.proofs.rewritten.lsl.Statement.{statement}
 use Rattle.arms.proofs.rewritten.lsl.Tie as tie
-use Rattle.arms.proofs.rewritten.lsl.Reads as reads
-use Rattle.arms.proofs.rewritten.lsl.Lts as lts
-use Rattle.arms.proofs.general.generally.Reads as generally-reads
-use Rattle.arms.proofs.parts.named.Reads as named-reads
-use Rattle.arms.proofs.parts.plain.Reads as plain-reads
-use Rattle.arms.proofs.parts.register_of.Reads as register-of-reads
-use Rattle.arms.proofs.parts.two.Reads as two-reads
-use Rattle.operands.proofs.kinds.is_register.Reads as is-register-reads
 
 is-register-requires : tie.Need-is-register-requires
 is-register-requires c κs = search needs

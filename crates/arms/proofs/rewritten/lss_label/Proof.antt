@@ -1,9 +1,9 @@
+-- `arms::rewritten::lss_label` meets its contract: at each return, what was called ensures and what was tested give the definition's case.
+-- Assumes nothing.
 use Rattle.arms.specs.Rewritten.{lssLabel}
 use borrow.Author.Tests.{ne-eqb}
 use Rattle.arms.proofs.rewritten.lss_label.Statement.{statement}
 use Rattle.arms.proofs.rewritten.lss_label.Tie as tie
-use Rattle.arms.proofs.rewritten.lss_label.Reads as reads
-use Rattle.arms.proofs.rewritten.lss_label.Lts as lts
 
 returns : tie.Need-returns
 unfolding lssLabel

@@ -1,13 +1,10 @@
+-- `arms::rewritten::nop` meets its contract: at each return, what was called ensures and what was tested give the definition's case.
+-- Assumes nothing.
 use Rattle.arms.specs.Shows.{itemsOf}
 use Rattle.arms.proofs.Said.{said}
 use borrow.Author.Needs.{needs}
 use Rattle.arms.proofs.rewritten.nop.Statement.{statement}
 use Rattle.arms.proofs.rewritten.nop.Tie as tie
-use Rattle.arms.proofs.rewritten.nop.Reads as reads
-use Rattle.arms.proofs.rewritten.nop.Lts as lts
-use Rattle.arms.proofs.general.generally.Reads as generally-reads
-use Rattle.arms.proofs.parts.none.Reads as none-reads
-use Rattle.operands.proofs.kinds.is_absent.Reads as is-absent-reads
 
 is-absent-requires : tie.Need-is-absent-requires
 is-absent-requires c κs = search needs

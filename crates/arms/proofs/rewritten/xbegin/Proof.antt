@@ -1,13 +1,10 @@
+-- `arms::rewritten::xbegin` meets its contract: at each return, what was called ensures and what was tested give the definition's case.
+-- Assumes nothing.
 use Rattle.arms.specs.Shows.{itemsOf}
 use borrow.Author.Tests.{eq-eqb, ne-eqb}
 use borrow.Author.Needs.{needs}
 use Rattle.arms.proofs.rewritten.xbegin.Statement.{statement}
 use Rattle.arms.proofs.rewritten.xbegin.Tie as tie
-use Rattle.arms.proofs.rewritten.xbegin.Reads as reads
-use Rattle.arms.proofs.rewritten.xbegin.Lts as lts
-use Rattle.arms.proofs.general.generally.Reads as generally-reads
-use Rattle.arms.proofs.parts.immediate_kind.Reads as immediate-kind-reads
-use Rattle.arms.proofs.rewritten.branch.Reads as branch-reads
 
 immediate-kind-requires : tie.Need-immediate-kind-requires
 immediate-kind-requires c κs = search needs

@@ -1,352 +1,9 @@
+-- `arms::shows::items` meets its contract: at each return, what was called ensures and what was tested give the definition's case.
+-- Assumes nothing.
 use Rattle.arms.specs.Shows.{itemsOf}
 use borrow.Author.Needs.{needs}
 use Rattle.arms.proofs.shows.items.Statement.{statement}
 use Rattle.arms.proofs.shows.items.Tie as tie
-use Rattle.arms.proofs.shows.items.Reads as reads
-use Rattle.arms.proofs.shows.items.Lts as lts
-use Rattle.arms.proofs.fpu.fadd.Reads as fadd-reads
-use Rattle.arms.proofs.fpu.fbld.Reads as fbld-reads
-use Rattle.arms.proofs.fpu.tbyte_label.Reads as tbyte-label-reads
-use Rattle.arms.proofs.general.by_registers.Reads as by-registers-reads
-use Rattle.arms.proofs.general.general.Reads as general-reads
-use Rattle.arms.proofs.general.generally.Reads as generally-reads
-use Rattle.arms.proofs.general.later_without_ds.Reads as later-without-ds-reads
-use Rattle.arms.proofs.parts.labelled.Reads as labelled-reads
-use Rattle.arms.proofs.parts.labelled_memory.Reads as labelled-memory-reads
-use Rattle.arms.proofs.parts.named.Reads as named-reads
-use Rattle.arms.proofs.parts.none.Reads as none-reads
-use Rattle.arms.proofs.parts.one.Reads as one-reads
-use Rattle.arms.proofs.parts.plain.Reads as plain-reads
-use Rattle.arms.proofs.parts.size_label.Reads as size-label-reads
-use Rattle.arms.proofs.parts.three.Reads as three-reads
-use Rattle.arms.proofs.parts.two.Reads as two-reads
-use Rattle.arms.proofs.rewritten.aam.Reads as aam-reads
-use Rattle.arms.proofs.rewritten.lsl.Reads as lsl-reads
-use Rattle.arms.proofs.rewritten.lss_label.Reads as lss-label-reads
-use Rattle.arms.proofs.rewritten.nop.Reads as nop-reads
-use Rattle.arms.proofs.rewritten.relative_branch.Reads as relative-branch-reads
-use Rattle.arms.proofs.rewritten.xbegin.Reads as xbegin-reads
-
-enum-told : tie.Need-enum-told
-enum-told c = search needs
-
-generally-requires : tie.Need-generally-requires
-generally-requires c κs = search needs
-
-enum-told-2 : tie.Need-enum-told-2
-enum-told-2 c = search needs
-
-general-requires : tie.Need-general-requires
-general-requires c κs = search needs
-
-enum-told-3 : tie.Need-enum-told-3
-enum-told-3 c = search needs
-
-general-requires-2 : tie.Need-general-requires-2
-general-requires-2 c κs = search needs
-
-enum-told-4 : tie.Need-enum-told-4
-enum-told-4 c = search needs
-
-by-registers-requires : tie.Need-by-registers-requires
-by-registers-requires c κs = search needs
-
-enum-told-5 : tie.Need-enum-told-5
-enum-told-5 c = search needs
-
-by-registers-requires-2 : tie.Need-by-registers-requires-2
-by-registers-requires-2 c κs = search needs
-
-enum-told-6 : tie.Need-enum-told-6
-enum-told-6 c = search needs
-
-by-registers-requires-3 : tie.Need-by-registers-requires-3
-by-registers-requires-3 c κs = search needs
-
-enum-told-7 : tie.Need-enum-told-7
-enum-told-7 c = search needs
-
-generally-requires-2 : tie.Need-generally-requires-2
-generally-requires-2 c κs = search needs
-
-later-without-ds-requires : tie.Need-later-without-ds-requires
-later-without-ds-requires c κs = search needs
-
-enum-told-8 : tie.Need-enum-told-8
-enum-told-8 c = search needs
-
-generally-requires-3 : tie.Need-generally-requires-3
-generally-requires-3 c κs = search needs
-
-enum-told-9 : tie.Need-enum-told-9
-enum-told-9 c = search needs
-
-relative-branch-requires : tie.Need-relative-branch-requires
-relative-branch-requires c κs = search needs
-
-enum-told-10 : tie.Need-enum-told-10
-enum-told-10 c = search needs
-
-xbegin-requires : tie.Need-xbegin-requires
-xbegin-requires c κs = search needs
-
-enum-told-11 : tie.Need-enum-told-11
-enum-told-11 c = search needs
-
-none-requires : tie.Need-none-requires
-none-requires c κs = search needs
-
-enum-told-12 : tie.Need-enum-told-12
-enum-told-12 c = search needs
-
-none-requires-2 : tie.Need-none-requires-2
-none-requires-2 c κs = search needs
-
-enum-told-13 : tie.Need-enum-told-13
-enum-told-13 c = search needs
-
-none-requires-3 : tie.Need-none-requires-3
-none-requires-3 c κs = search needs
-
-enum-told-14 : tie.Need-enum-told-14
-enum-told-14 c = search needs
-
-plain-requires : tie.Need-plain-requires
-plain-requires c κs = search needs
-
-named-requires : tie.Need-named-requires
-named-requires c κs = search needs
-
-two-requires : tie.Need-two-requires
-two-requires c κs = search needs
-
-enum-told-15 : tie.Need-enum-told-15
-enum-told-15 c = search needs
-
-lsl-requires : tie.Need-lsl-requires
-lsl-requires c κs = search needs
-
-enum-told-16 : tie.Need-enum-told-16
-enum-told-16 c = search needs
-
-plain-requires-2 : tie.Need-plain-requires-2
-plain-requires-2 c κs = search needs
-
-one-requires : tie.Need-one-requires
-one-requires c κs = search needs
-
-enum-told-17 : tie.Need-enum-told-17
-enum-told-17 c = search needs
-
-labelled-requires : tie.Need-labelled-requires
-labelled-requires c κs = search needs
-
-one-requires-2 : tie.Need-one-requires-2
-one-requires-2 c κs = search needs
-
-enum-told-18 : tie.Need-enum-told-18
-enum-told-18 c = search needs
-
-plain-requires-3 : tie.Need-plain-requires-3
-plain-requires-3 c κs = search needs
-
-lss-label-requires : tie.Need-lss-label-requires
-lss-label-requires c κs = search needs
-
-labelled-requires-2 : tie.Need-labelled-requires-2
-labelled-requires-2 c κs = search needs
-
-two-requires-2 : tie.Need-two-requires-2
-two-requires-2 c κs = search needs
-
-enum-told-19 : tie.Need-enum-told-19
-enum-told-19 c = search needs
-
-nop-requires : tie.Need-nop-requires
-nop-requires c κs = search needs
-
-enum-told-20 : tie.Need-enum-told-20
-enum-told-20 c = search needs
-
-named-requires-2 : tie.Need-named-requires-2
-named-requires-2 c κs = search needs
-
-named-requires-3 : tie.Need-named-requires-3
-named-requires-3 c κs = search needs
-
-named-requires-4 : tie.Need-named-requires-4
-named-requires-4 c κs = search needs
-
-three-requires : tie.Need-three-requires
-three-requires c κs = search needs
-
-enum-told-21 : tie.Need-enum-told-21
-enum-told-21 c = search needs
-
-named-requires-5 : tie.Need-named-requires-5
-named-requires-5 c κs = search needs
-
-named-requires-6 : tie.Need-named-requires-6
-named-requires-6 c κs = search needs
-
-two-requires-3 : tie.Need-two-requires-3
-two-requires-3 c κs = search needs
-
-enum-told-22 : tie.Need-enum-told-22
-enum-told-22 c = search needs
-
-plain-requires-4 : tie.Need-plain-requires-4
-plain-requires-4 c κs = search needs
-
-plain-requires-5 : tie.Need-plain-requires-5
-plain-requires-5 c κs = search needs
-
-two-requires-4 : tie.Need-two-requires-4
-two-requires-4 c κs = search needs
-
-enum-told-23 : tie.Need-enum-told-23
-enum-told-23 c = search needs
-
-none-requires-4 : tie.Need-none-requires-4
-none-requires-4 c κs = search needs
-
-enum-told-24 : tie.Need-enum-told-24
-enum-told-24 c = search needs
-
-size-label-requires : tie.Need-size-label-requires
-size-label-requires c κs = search needs
-
-labelled-requires-3 : tie.Need-labelled-requires-3
-labelled-requires-3 c κs = search needs
-
-one-requires-3 : tie.Need-one-requires-3
-one-requires-3 c κs = search needs
-
-enum-told-25 : tie.Need-enum-told-25
-enum-told-25 c = search needs
-
-size-label-requires-2 : tie.Need-size-label-requires-2
-size-label-requires-2 c κs = search needs
-
-labelled-requires-4 : tie.Need-labelled-requires-4
-labelled-requires-4 c κs = search needs
-
-one-requires-4 : tie.Need-one-requires-4
-one-requires-4 c κs = search needs
-
-enum-told-26 : tie.Need-enum-told-26
-enum-told-26 c = search needs
-
-named-requires-7 : tie.Need-named-requires-7
-named-requires-7 c κs = search needs
-
-one-requires-5 : tie.Need-one-requires-5
-one-requires-5 c κs = search needs
-
-enum-told-27 : tie.Need-enum-told-27
-enum-told-27 c = search needs
-
-named-requires-8 : tie.Need-named-requires-8
-named-requires-8 c κs = search needs
-
-named-requires-9 : tie.Need-named-requires-9
-named-requires-9 c κs = search needs
-
-named-requires-10 : tie.Need-named-requires-10
-named-requires-10 c κs = search needs
-
-three-requires-2 : tie.Need-three-requires-2
-three-requires-2 c κs = search needs
-
-enum-told-28 : tie.Need-enum-told-28
-enum-told-28 c = search needs
-
-generally-requires-4 : tie.Need-generally-requires-4
-generally-requires-4 c κs = search needs
-
-enum-told-29 : tie.Need-enum-told-29
-enum-told-29 c = search needs
-
-generally-requires-5 : tie.Need-generally-requires-5
-generally-requires-5 c κs = search needs
-
-enum-told-30 : tie.Need-enum-told-30
-enum-told-30 c = search needs
-
-plain-requires-6 : tie.Need-plain-requires-6
-plain-requires-6 c κs = search needs
-
-size-label-requires-3 : tie.Need-size-label-requires-3
-size-label-requires-3 c κs = search needs
-
-labelled-memory-requires : tie.Need-labelled-memory-requires
-labelled-memory-requires c κs = search needs
-
-named-requires-11 : tie.Need-named-requires-11
-named-requires-11 c κs = search needs
-
-three-requires-3 : tie.Need-three-requires-3
-three-requires-3 c κs = search needs
-
-enum-told-31 : tie.Need-enum-told-31
-enum-told-31 c = search needs
-
-plain-requires-7 : tie.Need-plain-requires-7
-plain-requires-7 c κs = search needs
-
-plain-requires-8 : tie.Need-plain-requires-8
-plain-requires-8 c κs = search needs
-
-two-requires-5 : tie.Need-two-requires-5
-two-requires-5 c κs = search needs
-
-enum-told-32 : tie.Need-enum-told-32
-enum-told-32 c = search needs
-
-none-requires-5 : tie.Need-none-requires-5
-none-requires-5 c κs = search needs
-
-enum-told-33 : tie.Need-enum-told-33
-enum-told-33 c = search needs
-
-aam-requires : tie.Need-aam-requires
-aam-requires c κs = search needs
-
-enum-told-34 : tie.Need-enum-told-34
-enum-told-34 c = search needs
-
-size-label-requires-4 : tie.Need-size-label-requires-4
-size-label-requires-4 c κs = search needs
-
-labelled-memory-requires-2 : tie.Need-labelled-memory-requires-2
-labelled-memory-requires-2 c κs = search needs
-
-one-requires-6 : tie.Need-one-requires-6
-one-requires-6 c κs = search needs
-
-enum-told-35 : tie.Need-enum-told-35
-enum-told-35 c = search needs
-
-fadd-requires : tie.Need-fadd-requires
-fadd-requires c κs = search needs
-
-enum-told-36 : tie.Need-enum-told-36
-enum-told-36 c = search needs
-
-fbld-requires : tie.Need-fbld-requires
-fbld-requires c κs = search needs
-
-enum-told-37 : tie.Need-enum-told-37
-enum-told-37 c = search needs
-
-tbyte-label-requires : tie.Need-tbyte-label-requires
-tbyte-label-requires c κs = search needs
-
-labelled-memory-requires-3 : tie.Need-labelled-memory-requires-3
-labelled-memory-requires-3 c κs = search needs
-
-one-requires-7 : tie.Need-one-requires-7
-one-requires-7 c κs = search needs
 
 returns : tie.Need-returns
 unfolding itemsOf
@@ -496,117 +153,118 @@ returns-37 : tie.Need-returns-37
 unfolding itemsOf
 returns-37 c = rw (c .one7 .ensures, c .before .labelled-memory3 .ensures, c .before .before .tbyte-label .ensures, c .before .before .before .enum-told37 .given .1)
 
+-- which constructor a match found, and what each callee requires, are found by search
 pub items-spec : {M : Type 1} → statement M
 items-spec =
     tie.close
     (tie.spec
-    enum-told
-    generally-requires
-    enum-told-2
-    general-requires
-    enum-told-3
-    general-requires-2
-    enum-told-4
-    by-registers-requires
-    enum-told-5
-    by-registers-requires-2
-    enum-told-6
-    by-registers-requires-3
-    enum-told-7
-    generally-requires-2
-    later-without-ds-requires
-    enum-told-8
-    generally-requires-3
-    enum-told-9
-    relative-branch-requires
-    enum-told-10
-    xbegin-requires
-    enum-told-11
-    none-requires
-    enum-told-12
-    none-requires-2
-    enum-told-13
-    none-requires-3
-    enum-told-14
-    plain-requires
-    named-requires
-    two-requires
-    enum-told-15
-    lsl-requires
-    enum-told-16
-    plain-requires-2
-    one-requires
-    enum-told-17
-    labelled-requires
-    one-requires-2
-    enum-told-18
-    plain-requires-3
-    lss-label-requires
-    labelled-requires-2
-    two-requires-2
-    enum-told-19
-    nop-requires
-    enum-told-20
-    named-requires-2
-    named-requires-3
-    named-requires-4
-    three-requires
-    enum-told-21
-    named-requires-5
-    named-requires-6
-    two-requires-3
-    enum-told-22
-    plain-requires-4
-    plain-requires-5
-    two-requires-4
-    enum-told-23
-    none-requires-4
-    enum-told-24
-    size-label-requires
-    labelled-requires-3
-    one-requires-3
-    enum-told-25
-    size-label-requires-2
-    labelled-requires-4
-    one-requires-4
-    enum-told-26
-    named-requires-7
-    one-requires-5
-    enum-told-27
-    named-requires-8
-    named-requires-9
-    named-requires-10
-    three-requires-2
-    enum-told-28
-    generally-requires-4
-    enum-told-29
-    generally-requires-5
-    enum-told-30
-    plain-requires-6
-    size-label-requires-3
-    labelled-memory-requires
-    named-requires-11
-    three-requires-3
-    enum-told-31
-    plain-requires-7
-    plain-requires-8
-    two-requires-5
-    enum-told-32
-    none-requires-5
-    enum-told-33
-    aam-requires
-    enum-told-34
-    size-label-requires-4
-    labelled-memory-requires-2
-    one-requires-6
-    enum-told-35
-    fadd-requires
-    enum-told-36
-    fbld-requires
-    enum-told-37
-    tbyte-label-requires
-    labelled-memory-requires-3
-    one-requires-7
+    (λ c. search needs)
+    (λ c κs. search needs)
+    (λ c. search needs)
+    (λ c κs. search needs)
+    (λ c. search needs)
+    (λ c κs. search needs)
+    (λ c. search needs)
+    (λ c κs. search needs)
+    (λ c. search needs)
+    (λ c κs. search needs)
+    (λ c. search needs)
+    (λ c κs. search needs)
+    (λ c. search needs)
+    (λ c κs. search needs)
+    (λ c κs. search needs)
+    (λ c. search needs)
+    (λ c κs. search needs)
+    (λ c. search needs)
+    (λ c κs. search needs)
+    (λ c. search needs)
+    (λ c κs. search needs)
+    (λ c. search needs)
+    (λ c κs. search needs)
+    (λ c. search needs)
+    (λ c κs. search needs)
+    (λ c. search needs)
+    (λ c κs. search needs)
+    (λ c. search needs)
+    (λ c κs. search needs)
+    (λ c κs. search needs)
+    (λ c κs. search needs)
+    (λ c. search needs)
+    (λ c κs. search needs)
+    (λ c. search needs)
+    (λ c κs. search needs)
+    (λ c κs. search needs)
+    (λ c. search needs)
+    (λ c κs. search needs)
+    (λ c κs. search needs)
+    (λ c. search needs)
+    (λ c κs. search needs)
+    (λ c κs. search needs)
+    (λ c κs. search needs)
+    (λ c κs. search needs)
+    (λ c. search needs)
+    (λ c κs. search needs)
+    (λ c. search needs)
+    (λ c κs. search needs)
+    (λ c κs. search needs)
+    (λ c κs. search needs)
+    (λ c κs. search needs)
+    (λ c. search needs)
+    (λ c κs. search needs)
+    (λ c κs. search needs)
+    (λ c κs. search needs)
+    (λ c. search needs)
+    (λ c κs. search needs)
+    (λ c κs. search needs)
+    (λ c κs. search needs)
+    (λ c. search needs)
+    (λ c κs. search needs)
+    (λ c. search needs)
+    (λ c κs. search needs)
+    (λ c κs. search needs)
+    (λ c κs. search needs)
+    (λ c. search needs)
+    (λ c κs. search needs)
+    (λ c κs. search needs)
+    (λ c κs. search needs)
+    (λ c. search needs)
+    (λ c κs. search needs)
+    (λ c κs. search needs)
+    (λ c. search needs)
+    (λ c κs. search needs)
+    (λ c κs. search needs)
+    (λ c κs. search needs)
+    (λ c κs. search needs)
+    (λ c. search needs)
+    (λ c κs. search needs)
+    (λ c. search needs)
+    (λ c κs. search needs)
+    (λ c. search needs)
+    (λ c κs. search needs)
+    (λ c κs. search needs)
+    (λ c κs. search needs)
+    (λ c κs. search needs)
+    (λ c κs. search needs)
+    (λ c. search needs)
+    (λ c κs. search needs)
+    (λ c κs. search needs)
+    (λ c κs. search needs)
+    (λ c. search needs)
+    (λ c κs. search needs)
+    (λ c. search needs)
+    (λ c κs. search needs)
+    (λ c. search needs)
+    (λ c κs. search needs)
+    (λ c κs. search needs)
+    (λ c κs. search needs)
+    (λ c. search needs)
+    (λ c κs. search needs)
+    (λ c. search needs)
+    (λ c κs. search needs)
+    (λ c. search needs)
+    (λ c κs. search needs)
+    (λ c κs. search needs)
+    (λ c κs. search needs)
     returns
     returns-2
     returns-3

@@ -1,0 +1,119 @@
+// The line of one record in a lent buffer.
+ghost use mathlib.Core.List.{map};
+ghost use mathlib.Core.Path.{_≡_};
+ghost use Prim.Native.Nat.{_≤_};
+ghost use lib.ListN.{length};
+ghost use Rattle.text.specs.Words.{Table};
+ghost use Rattle.names.specs.Mnemonics.{mnemonics as names};
+ghost use Rattle.names.specs.Registers.{registers as regs};
+ghost use Rattle.arms.specs.Arms.{number, arms as armTable};
+ghost use Rattle.lines.specs.Text.{lineText};
+ghost use Rattle.records.specs.Answers.{Gives};
+ghost use Rattle.records.specs.Records.{lineOutcome, recordOutcome};
+use crate::Answer;
+use crate::Judged;
+use crate::judge;
+use arrange::Line;
+use names::mnemonics;
+use names::registers;
+
+// A line that fits.
+fn print_fitting(
+    name_letters: &mnemonics::Letters,
+    name_starts: &mnemonics::Starts,
+    register_letters: &registers::Letters,
+    register_starts: &registers::Starts,
+    line: Line,
+    text: &mut [u8],
+) -> Answer
+    requires { ⌜ Table names (now «name_letters») (now «name_starts») ⌝ }
+    requires { ⌜ Table regs (now «register_letters») (now «register_starts») ⌝ }
+    requires { ⌜ length (lineText line) ≤ length (now text) ⌝ }
+    ensures { λ r. ⌜ Gives (lineOutcome line (now (text .entry))) r (now (text .exit)) ⌝ }
+{
+    let written = lines::line::put_line(
+        text,
+        0,
+        name_letters,
+        name_starts,
+        register_letters,
+        register_starts,
+        line,
+    );
+    Answer::Printed(written)
+}
+
+// A line, where it fits. No line exceeds 256 bytes, so in a larger buffer it need not be measured first.
+pub fn print_line(
+    name_letters: &mnemonics::Letters,
+    name_starts: &mnemonics::Starts,
+    register_letters: &registers::Letters,
+    register_starts: &registers::Starts,
+    line: Line,
+    text: &mut [u8],
+) -> Answer
+    requires { ⌜ Table names (now «name_letters») (now «name_starts») ⌝ }
+    requires { ⌜ Table regs (now «register_letters») (now «register_starts») ⌝ }
+    ensures { λ r. ⌜ Gives (lineOutcome line (now (text .entry))) r (now (text .exit)) ⌝ }
+{
+    if 256 <= text.len() {
+        return print_fitting(
+            name_letters,
+            name_starts,
+            register_letters,
+            register_starts,
+            line,
+            text,
+        );
+    }
+    let needed = lines::line::line_length(
+        name_letters,
+        name_starts,
+        register_letters,
+        register_starts,
+        line,
+    );
+    if text.len() < needed {
+        return Answer::Room(needed);
+    }
+    print_fitting(
+        name_letters,
+        name_starts,
+        register_letters,
+        register_starts,
+        line,
+        text,
+    )
+}
+
+pub fn print_record(
+    name_letters: &mnemonics::Letters,
+    name_starts: &mnemonics::Starts,
+    register_letters: &registers::Letters,
+    register_starts: &registers::Starts,
+    arms: &[u8; 154],
+    body: &[u8],
+    mode: u32,
+    text: &mut [u8],
+) -> Answer
+    requires { ⌜ Table names (now «name_letters») (now «name_starts») ⌝ }
+    requires { ⌜ Table regs (now «register_letters») (now «register_starts») ⌝ }
+    requires { ⌜ now arms ≡ map number armTable ⌝ }
+    ensures { λ r. ⌜ Gives (recordOutcome mode (now (body .entry)) (now (text .entry))) r (now (text .exit)) ⌝ }
+{
+    match judge::judge(arms, body, mode) {
+        Judged::Mode => Answer::Mode,
+        Judged::Length => Answer::Length,
+        Judged::Field => Answer::Field,
+        Judged::Shape => Answer::Shape,
+        Judged::Size => Answer::Size,
+        Judged::Shown(line) => print_line(
+            name_letters,
+            name_starts,
+            register_letters,
+            register_starts,
+            line,
+            text,
+        ),
+    }
+}
