@@ -353,10 +353,10 @@ static void refusals(void)
 	struct body b;
 
 	b = record("the longest line", MOVS, 15, 16, 0, UINT32_C(0x80000000));
-	b.bytes[2] = 0x0F; /* xacquire, xrelease, lock, rep */
+	b.bytes[2] = 0x17; /* xacquire, xrelease, lock, repnz */
 	b = with(with(b, 16, FS, EAX, ECX, 8), 16, FS, EAX, ECX, 8);
 	b = with(with(b, 16, FS, EAX, ECX, 8), 16, FS, EAX, ECX, 8);
-	prints(b, "xacquire xrelease lock rep movs xmmword ptr fs:[eax + ecx * 8 - 80000000h], "
+	prints(b, "xacquire xrelease lock repne movs xmmword ptr fs:[eax + ecx * 8 - 80000000h], "
 	          "xmmword ptr fs:[eax + ecx * 8 - 80000000h], xmmword ptr fs:[eax + ecx * 8 - 80000000h], "
 	          "xmmword ptr fs:[eax + ecx * 8 - 80000000h]");
 

@@ -1,2 +1,5 @@
 pub mod Answered
-pub mod Frames
+pub mod Following
+pub mod Placing
+pub mod Walking
+pub mod Outcomes

@@ -39,7 +39,15 @@ fn put_shown(
     requires { ⌜ Room (now text) at (lineText line ++ newline) ⌝ }
     ensures { λ r. ⌜ Put (now (text .entry)) at (lineText line ++ newline) r (now (text .exit)) ⌝ }
 {
-    let next = lines::line::put_line(text, at, name_letters, name_starts, register_letters, register_starts, line);
+    let next = lines::line::put_line(
+        text,
+        at,
+        name_letters,
+        name_starts,
+        register_letters,
+        register_starts,
+        line,
+    );
     text::put_byte(text, next, b'\n')
 }
 
@@ -66,7 +74,15 @@ pub fn put_record_line(
         Judged::Field => put_refused(text, at, 3),
         Judged::Shape => put_refused(text, at, 4),
         Judged::Size => put_refused(text, at, 5),
-        Judged::Shown(line) => put_shown(name_letters, name_starts, register_letters, register_starts, line, text, at),
+        Judged::Shown(line) => put_shown(
+            name_letters,
+            name_starts,
+            register_letters,
+            register_starts,
+            line,
+            text,
+            at,
+        ),
     }
 }
 
@@ -91,6 +107,13 @@ pub fn record_line_length(
         Judged::Field => 12,
         Judged::Shape => 12,
         Judged::Size => 12,
-        Judged::Shown(line) => lines::line::line_length(name_letters, name_starts, register_letters, register_starts, line) + 1,
+        Judged::Shown(line) => lines::line::line_length(
+            name_letters,
+            name_starts,
+            register_letters,
+            register_starts,
+            line,
+        )
+            + 1,
     }
 }

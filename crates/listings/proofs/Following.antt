@@ -70,6 +70,15 @@ module _ (mode : ℕ) where
       ap (λ (t : List ℕ). frontLine mode ys ++ t)
       (within-any (length xs) (length (drop (frameSize ys) ys)) (drop (frameSize ys) ys) (omega (arith, left, some)) (omega arith))
 
+  -- no line exceeds 256 bytes and its newline
+  pub front-most : (xs : List ℕ) → length (frontLine mode xs) ≤ 257
+  unfolding frontLine
+  front-most xs = go (isWhole xs)
+    where
+      go : (b : Bool) → length (pick b (recordLine mode (bodyOf xs)) cutLine) ≤ 257
+      go true = record-line-short mode (bodyOf xs)
+      go false = lit≤ tt
+
   -- a line is at most 257 bytes, and a whole frame at least two
   front-short : (xs : List ℕ) → 0 < length xs → length (frontLine mode xs) ≤ 129 * frameSize xs
   unfolding frontLine
@@ -86,12 +95,14 @@ module _ (mode : ℕ) where
   within-short (suc k) (x ∷ xs) =
       let ys = x ∷ xs in
       let rest = drop (frameSize ys) ys in
-      omega (arith,
-      length-append (frontLine mode ys) (linesWithin k mode rest),
-      front-short ys (omega arith),
-      within-short k rest,
-      length-drop (frameSize ys) ys,
-      frame-within ys)
+      omega (
+        arith,
+        length-append (frontLine mode ys) (linesWithin k mode rest),
+        front-short ys (omega arith),
+        within-short k rest,
+        length-drop (frameSize ys) ys,
+        frame-within ys,
+      )
 
   -- the total length of a listing within the size limit fits 32 bits
   pub lines-short : (xs : List ℕ) → length (linesOf mode xs) ≤ 129 * length xs

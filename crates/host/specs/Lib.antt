@@ -1,0 +1,2 @@
+-- What the C host sees. Definitions only.
+pub mod Packed

@@ -1,0 +1,114 @@
+-- What a line shows, in the values of MASM's reader, from the line alone and never from its text.
+-- Assumes nothing.
+use mathlib.Core.Bool.{Bool, true, false, cond, _&&_}
+use mathlib.Core.List.{List, [], _∷_, _++_}
+use mathlib.Core.Option.{Option, none, some}
+use Prim.Native.Nat.{ℕ, suc, _+_, _-_, _%_, _^_}
+use lib.Dec.{ltb, eqb}
+use lib.IntN.{ℤ, pos, negsuc, negℤ, _+ℤ_}
+use Rattle.text.specs.Choice.{when}
+use Rattle.text.specs.Words.{bytes}
+use Rattle.names.specs.Mnemonics.{mnemonic}
+use Rattle.operands.specs.declared.Address.{Address}
+use Rattle.operands.specs.declared.Label.{Label}
+use Rattle.operands.specs.declared.Label.the-variants as label
+use Rattle.operands.specs.declared.Shown.{Shown}
+use Rattle.operands.specs.declared.Shown.the-variants.{Nothing, Name, St, Number, Word, Dword, Bracket, Branch}
+use Rattle.operands.specs.declared.Item.{Item}
+use Rattle.arrange.specs.declared.Head.{Head}
+use Rattle.arrange.specs.declared.Line.{Line}
+use Rattle.arrange.specs.declared.Name.{Name as Mnemonic}
+use Rattle.arrange.specs.declared.Name.the-variants.{Opcode, Feni, Fdisi, Fsetpm}
+use Rattle.masm.specs.Operands as masm
+use Rattle.masm.specs.Operands.{Operand, Register, register, immediate, branch, address}
+use Rattle.masm.specs.Lines.{Line as Read, Prefix, Xacquire, Xrelease, Lock, Rep, Repne}
+
+-- ---- The head
+
+-- what stands in a list where it is called for
+abbrev pub shownIf : {A : Type 0} → Bool → A → List A → List A
+shownIf true x xs = x ∷ xs
+shownIf false x xs = xs
+
+-- the prefix words, in the printed order
+abbrev pub prefixesOf : Head → List Prefix
+prefixesOf h =
+    shownIf (h .xacquire) Xacquire (shownIf (h .xrelease) Xrelease (shownIf (h .lock) Lock (shownIf (h .rep) Rep (shownIf (h .repne) Repne []))))
+
+-- the letters of the mnemonic: the opcode's name, or one of three words of their own
+abbrev pub nameOf : Mnemonic → List ℕ
+nameOf (Opcode opcode) = mnemonic opcode
+nameOf Feni = bytes "feni"
+nameOf Fdisi = bytes "fdisi"
+nameOf Fsetpm = bytes "fsetpm"
+
+-- and a `d` behind them where the line has it
+abbrev pub mnemonicOf : Head → List ℕ
+mnemonicOf h = nameOf (h .name) ++ when (h .suffix) (bytes "d")
+
+-- ---- Numbers
+
+-- an integer modulo 2^32: below 0, what is missing to the next multiple of 2^32
+abbrev pub modulo : ℤ → ℕ
+modulo (pos n) = n % 2 ^ 32
+modulo (negsuc n) = (2 ^ 32 - suc n % 2 ^ 32) % 2 ^ 32
+
+-- an integer by its sign and its size
+abbrev pub bySign : (minus : Bool) → ℕ → ℤ
+bySign minus size = cond minus (negℤ (pos size)) (pos size)
+
+-- ---- Operands
+
+-- a label as the reader names it; `Missing` stands in no line that is printed
+abbrev pub labelOf : Label → masm.Label
+labelOf label.None = masm.Unlabelled
+labelOf label.Byte = masm.Byte
+labelOf label.Word = masm.Word
+labelOf label.Dword = masm.Dword
+labelOf label.Qword = masm.Qword
+labelOf label.Xmmword = masm.Xmmword
+labelOf label.Ymmword = masm.Ymmword
+labelOf label.Zmmword = masm.Zmmword
+labelOf label.Mmword = masm.Mmword
+labelOf label.Fword = masm.Fword
+labelOf label.Tbyte = masm.Tbyte
+labelOf label.Missing = masm.Unlabelled
+
+-- segments 1 to 6 are es cs ss ds fs gs, the registers from 24 on
+abbrev pub segmentOf : ℕ → Option Register
+segmentOf s = cond (ltb 0 s) (some (23 + s)) none
+
+-- how many times a bracket counts a register: the base once, the index as often as the scale says
+abbrev pub timesOf : Address → Register → ℕ
+timesOf a r = cond (a .based && eqb r (a .base)) 1 0 + cond (a .indexed && eqb r (a .index)) (a .scale) 0
+
+-- what a bracket adds to its registers; without a displacement that is 0
+abbrev pub addedOf : Address → ℤ
+addedOf a = cond (a .displaced) (a .disp) (pos 0)
+
+-- what an operand of a line shows, or nothing: a register by its byte (`st` is st(0), 32), an immediate, an address, or a branch to
+-- the sum of the start and the signed number behind `$`. An absolute is an address that counts no register.
+abbrev pub operandOf : (start : ℕ) (label : Label) (segment : ℕ) → Shown → List Operand
+operandOf start label segment Nothing = []
+operandOf start label segment (Name reg) = register reg ∷ []
+operandOf start label segment St = register 32 ∷ []
+operandOf start label segment (Number value) = immediate (value % 2 ^ 32) ∷ []
+operandOf start label segment (Word value) = address (labelOf label) (segmentOf segment) (λ r. 0) (value % 2 ^ 32) ∷ []
+operandOf start label segment (Dword value) = address (labelOf label) (segmentOf segment) (λ r. 0) (value % 2 ^ 32) ∷ []
+operandOf start label segment (Bracket a) = address (labelOf label) (segmentOf segment) (timesOf a) (modulo (addedOf a)) ∷ []
+operandOf start label segment (Branch near minus size) = branch near (modulo (pos start +ℤ bySign minus size)) ∷ []
+
+-- an operand of a line with its label and segment
+abbrev pub itemOf : (start : ℕ) → Item → List Operand
+itemOf start x = operandOf start (x .label) (x .segment) (x .shown)
+
+-- ---- The line
+
+-- what a line shows, where its instruction starts at the address `start`
+unfoldable pub meaning : (start : ℕ) → Line → Read
+meaning start l =
+    record {
+      prefixes = prefixesOf (l .head);
+      mnemonic = mnemonicOf (l .head);
+      operands = itemOf start (l .items .a) ++ (itemOf start (l .items .b) ++ (itemOf start (l .items .c) ++ itemOf start (l .items .d)));
+    }

@@ -1,0 +1,66 @@
+-- A line that can be read: what holds of every line that is printed.
+-- Assumes nothing.
+use mathlib.Core.Bool.{Bool, true, false}
+use mathlib.Core.Path.{_≡_}
+use Prim.Native.Nat.{ℕ, _^_, _<_, _≤_}
+use Rattle.operands.specs.declared.Label.the-variants.{None}
+use Rattle.operands.specs.declared.Shown.{Shown}
+use Rattle.operands.specs.declared.Shown.the-variants.{Nothing, Name, St, Number, Word, Dword, Bracket, Branch}
+use Rattle.operands.specs.declared.Item.{Item}
+use Rattle.bodies.specs.WellFormed.{AddressKept}
+use Rattle.arrange.specs.Size.{lacksLabel}
+use Rattle.arrange.specs.Order.{fromTheLeft}
+use Rattle.arrange.specs.declared.Line.{Line}
+use Rattle.arrange.specs.declared.Name.{Name as Mnemonic}
+use Rattle.arrange.specs.declared.Name.the-variants.{Opcode, Feni, Fdisi, Fsetpm}
+
+-- a register byte that has a name
+pub record Named (reg : ℕ) : Type 0 where
+  pub below : reg < 64
+  pub not-30 : reg ≡ 30 → ⊥
+  pub not-31 : reg ≡ 31 → ⊥
+
+-- what is shown has a name, and is no larger than its form can show
+abbrev pub SoundShown : Shown → Type 0
+SoundShown Nothing = Unit {0}
+SoundShown (Name reg) = Named reg
+SoundShown St = Unit {0}
+SoundShown (Number value) = value < 2 ^ 32
+SoundShown (Word address) = address < 2 ^ 16
+SoundShown (Dword address) = address < 2 ^ 32
+SoundShown (Bracket address) = AddressKept address
+SoundShown (Branch near minus size) = size < 2 ^ 32
+
+-- an address: a label and a segment stand before nothing else
+abbrev pub isAddress : Shown → Bool
+isAddress Nothing = false
+isAddress (Name reg) = false
+isAddress St = false
+isAddress (Number value) = false
+isAddress (Word address) = true
+isAddress (Dword address) = true
+isAddress (Bracket address) = true
+isAddress (Branch near minus size) = false
+
+-- an operand of a line: what is shown, behind a known segment; what is no address has neither label nor segment
+pub record SoundItem (x : Item) : Type 0 where
+  pub shown : SoundShown (x .shown)
+  pub segment : x .segment ≤ 6
+  pub bare : isAddress (x .shown) ≡ false → (x .label ≡ None) × (x .segment ≡ 0)
+
+-- the mnemonic is an opcode's name, or one of the three words
+abbrev pub SoundName : Mnemonic → Type 0
+SoundName (Opcode opcode) = opcode < 154
+SoundName Feni = Unit {0}
+SoundName Fdisi = Unit {0}
+SoundName Fsetpm = Unit {0}
+
+-- a line: no label is missing, and its operands stand from the left with none left out
+pub record Sound (l : Line) : Type 0 where
+  pub name : SoundName (l .head .name)
+  pub a : SoundItem (l .items .a)
+  pub b : SoundItem (l .items .b)
+  pub c : SoundItem (l .items .c)
+  pub d : SoundItem (l .items .d)
+  pub labels : lacksLabel (l .items) ≡ false
+  pub ordered : fromTheLeft (l .items) ≡ true
