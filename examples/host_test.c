@@ -367,6 +367,7 @@ static void refusals(void)
 	refused(with(record("kind 0", MOV, 2, 0, 0, 0), 0, 0, 0, 0, 0), MASM_BAD_FIELD);
 	refused(with(record("kind 17", MOV, 2, 0, 0, 0), 17, 0, 0, 0, 0), MASM_BAD_FIELD);
 	refused(with(record("register byte 30", MOV, 2, 0, 0, 0), 1, 0, 30, 0, 0), MASM_BAD_FIELD);
+	refused(with(record("register byte 31", MOV, 2, 0, 0, 0), 1, 0, 31, 0, 0), MASM_BAD_FIELD);
 	refused(with(record("register byte 64", MOV, 2, 0, 0, 0), 2, 0, 64, 0, 0), MASM_BAD_FIELD);
 	refused(with(record("a base of 8 bits", MOV, 2, 4, 0, 0), 11, 0, 16, 0, 0), MASM_BAD_FIELD);
 	refused(with(record("scale 3", MOV, 2, 4, 0, 0), 13, 0, EAX, 0, 3), MASM_BAD_FIELD);
@@ -378,6 +379,9 @@ static void refusals(void)
 	refused(record("fadd of nothing", FADD, 2, 0, 0, 0), MASM_BAD_SHAPE);
 	refused(with(record("mov of 3 bytes", MOV, 2, 3, 0, 0), 11, NONE, EAX, 0, 0), MASM_BAD_SIZE);
 	refused(with(with(record("lss of 2 bytes", LSS, 3, 2, 0, 0), 1, NONE, EAX, 0, 0), 11, NONE, ECX, 0, 0), MASM_BAD_SIZE);
+	prints(with(with(record("lods from fs", LODS, 1, 1, 0, 0), 1, NONE, 16, 0, 0), 11, FS, ESI, 0, 0), "lods byte ptr [esi]");
+	prints(with(with(record("movs to ds", MOVS, 1, 1, 0, 0), 11, DS, EDI, 0, 0), 11, DS, ESI, 0, 0),
+	       "movs byte ptr ds:[edi], byte ptr [esi]");
 	prints(with(record("xbegin with 8 bits", XBEGIN, 6, 0, 5, 0), 3, NONE, 0, 0, 0), "xbegin 5");
 
 	/* the lowest number that applies; every one of these is also tried in mode 2 (1) and in no room (6) */
@@ -386,6 +390,7 @@ static void refusals(void)
 	refused(b, MASM_BAD_LENGTH);
 	refused(with(record("a field and a shape", SGDT, 0, 3, 0, 0), 1, NONE, EAX, 0, 0), MASM_BAD_FIELD);
 	refused(with(with(record("a shape and a size", LSS, 3, 3, 0, 0), 1, NONE, EAX, 0, 0), 1, NONE, EAX, 0, 0), MASM_BAD_SHAPE);
+	refused(with(record("a shape and a size in the general path", LSL, 3, 3, 0, 0), 11, NONE, EAX, 0, 0), MASM_BAD_SHAPE);
 }
 
 /* ---- listings */

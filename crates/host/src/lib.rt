@@ -33,7 +33,16 @@ pub extern "C" fn masm_print_record(body: &[u8], mode: u32, text: &mut [u8]) -> 
     let register_letters = names::registers::letters();
     let register_starts = names::registers::starts();
     let arms = arms::table::ARMS;
-    let answer = records::print::print_record(&name_letters, &name_starts, &register_letters, &register_starts, &arms, body, mode, text);
+    let answer = records::print::print_record(
+        &name_letters,
+        &name_starts,
+        &register_letters,
+        &register_starts,
+        &arms,
+        body,
+        mode,
+        text,
+    );
     pack(answer)
 }
 
@@ -46,6 +55,15 @@ pub extern "C" fn masm_print_listing(listing: &[u8], mode: u32, text: &mut [u8])
     let register_letters = names::registers::letters();
     let register_starts = names::registers::starts();
     let arms = arms::table::ARMS;
-    let answer = listings::print::print_listing(&name_letters, &name_starts, &register_letters, &register_starts, &arms, listing, mode, text);
+    let answer = listings::print::print_listing(
+        &name_letters,
+        &name_starts,
+        &register_letters,
+        &register_starts,
+        &arms,
+        listing,
+        mode,
+        text,
+    );
     pack(answer)
 }
