@@ -3,3 +3,4 @@ pub mod Following
 pub mod Placing
 pub mod Walking
 pub mod Outcomes
+pub mod Stepping

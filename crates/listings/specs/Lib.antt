@@ -3,3 +3,4 @@ pub mod Frames
 pub mod Lines
 pub mod Listings
 pub mod Places
+pub mod Stream

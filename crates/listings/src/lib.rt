@@ -2,6 +2,7 @@
 pub mod frames;
 pub mod print;
 pub mod record_line;
+pub mod stream;
 pub mod walk;
 
 // What stands at a place of a listing: a whole frame, by the places of its body, or too few bytes for one.
@@ -13,5 +14,21 @@ pub enum Frame {
 // The next place of the listing, and the next place of the text or the length of a line.
 pub struct Next {
     pub at: usize,
+    pub out: usize,
+}
+
+// How far a listing has come that arrives in parts: nothing yet, at a frame's start, in a body that is too long for any record
+// with so many bytes to come, or past a version byte that is not known.
+pub enum Stage {
+    Version,
+    Frames,
+    Skip(usize),
+    Done,
+}
+
+// One step of it: the stage then, how many bytes it used, and the next place of the text.
+pub struct Step {
+    pub stage: Stage,
+    pub used: usize,
     pub out: usize,
 }

@@ -1,0 +1,173 @@
+// A listing that arrives in parts: what the listing programs repeat. A frame can be longer than their buffer, but a body over
+// 1,289 bytes is refused by its length alone, so its bytes are only counted.
+ghost use mathlib.Core.List.{map};
+ghost use mathlib.Core.Path.{_≡_};
+ghost use Prim.Native.Nat.{_+_, _≤_};
+ghost use lib.ListN.{length};
+ghost use Rattle.text.specs.Words.{Table};
+ghost use Rattle.text.specs.Write.{Room, Put};
+ghost use Rattle.names.specs.Mnemonics.{mnemonics as names};
+ghost use Rattle.names.specs.Registers.{registers as regs};
+ghost use Rattle.arms.specs.Arms.{number, arms as armTable};
+ghost use Rattle.listings.specs.Stream.{Took, versionStep, skipStep, frameStep, stepped, cutAt};
+use crate::Stage;
+use crate::Step;
+use crate::record_line;
+use names::mnemonics;
+use names::registers;
+
+fn step_version(input: &[u8], text: &mut [u8], out: usize) -> Step
+    requires { ⌜ out + 257 ≤ length (now text) ⌝ }
+    ensures { λ r. ⌜ Took (versionStep (now (input .entry))) (now (text .entry)) out (r .stage) (r .used) (r .out) (now (text .exit)) ⌝ }
+{
+    if input.len() == 0 {
+        return Step {
+            stage: Stage::Version,
+            used: 0,
+            out,
+        };
+    }
+    if input[0] == 1 {
+        return Step {
+            stage: Stage::Frames,
+            used: 1,
+            out,
+        };
+    }
+    let next = text::put_bytes(text, out, b"; version\n");
+    Step {
+        stage: Stage::Done,
+        used: 1,
+        out: next,
+    }
+}
+
+fn step_skip(left: usize, input: &[u8], text: &mut [u8], out: usize) -> Step
+    requires { ⌜ out + 257 ≤ length (now text) ⌝ }
+    ensures { λ r. ⌜ Took (skipStep left (now (input .entry))) (now (text .entry)) out (r .stage) (r .used) (r .out) (now (text .exit)) ⌝ }
+{
+    let here = input.len();
+    if here < left {
+        return Step {
+            stage: Stage::Skip(left - here),
+            used: here,
+            out,
+        };
+    }
+    let next = text::put_bytes(text, out, b"; refused 2\n");
+    Step {
+        stage: Stage::Frames,
+        used: left,
+        out: next,
+    }
+}
+
+fn step_frame(
+    name_letters: &mnemonics::Letters,
+    name_starts: &mnemonics::Starts,
+    register_letters: &registers::Letters,
+    register_starts: &registers::Starts,
+    arms: &[u8; 154],
+    input: &[u8],
+    mode: u32,
+    text: &mut [u8],
+    out: usize,
+) -> Step
+    requires { ⌜ Table names (now «name_letters») (now «name_starts») ⌝ }
+    requires { ⌜ Table regs (now «register_letters») (now «register_starts») ⌝ }
+    requires { ⌜ now arms ≡ map number armTable ⌝ }
+    requires { ⌜ out + 257 ≤ length (now text) ⌝ }
+    ensures { λ r. ⌜ Took (frameStep mode (now (input .entry))) (now (text .entry)) out (r .stage) (r .used) (r .out) (now (text .exit)) ⌝ }
+{
+    if input.len() < 2 {
+        return Step {
+            stage: Stage::Frames,
+            used: 0,
+            out,
+        };
+    }
+    let size = bodies::numbers::word_at(input, 0) as usize;
+    if 1289 < size {
+        return Step {
+            stage: Stage::Skip(size),
+            used: 2,
+            out,
+        };
+    }
+    let end = 2 + size;
+    if input.len() < end {
+        return Step {
+            stage: Stage::Frames,
+            used: 0,
+            out,
+        };
+    }
+    let next = record_line::put_record_line(
+        name_letters,
+        name_starts,
+        register_letters,
+        register_starts,
+        arms,
+        &input[2..end],
+        mode,
+        text,
+        out,
+    );
+    Step {
+        stage: Stage::Frames,
+        used: end,
+        out: next,
+    }
+}
+
+pub fn step(
+    name_letters: &mnemonics::Letters,
+    name_starts: &mnemonics::Starts,
+    register_letters: &registers::Letters,
+    register_starts: &registers::Starts,
+    arms: &[u8; 154],
+    stage: Stage,
+    input: &[u8],
+    mode: u32,
+    text: &mut [u8],
+    out: usize,
+) -> Step
+    requires { ⌜ Table names (now «name_letters») (now «name_starts») ⌝ }
+    requires { ⌜ Table regs (now «register_letters») (now «register_starts») ⌝ }
+    requires { ⌜ now arms ≡ map number armTable ⌝ }
+    requires { ⌜ out + 257 ≤ length (now text) ⌝ }
+    ensures { λ r. ⌜ Took (stepped mode stage (now (input .entry))) (now (text .entry)) out (r .stage) (r .used) (r .out) (now (text .exit)) ⌝ }
+{
+    match stage {
+        Stage::Version => step_version(input, text, out),
+        Stage::Frames => step_frame(
+            name_letters,
+            name_starts,
+            register_letters,
+            register_starts,
+            arms,
+            input,
+            mode,
+            text,
+            out,
+        ),
+        Stage::Skip(left) => step_skip(left, input, text, out),
+        Stage::Done => Step {
+            stage: Stage::Done,
+            used: input.len(),
+            out,
+        },
+    }
+}
+
+// What is left to say where the input ends with so many bytes held: `; cut`, or nothing.
+pub fn is_cut(stage: Stage, held: usize) -> bool
+    ensures { λ r. ⌜ r ≡ cutAt stage held ⌝ }
+{
+    match stage {
+        Stage::Version => true,
+        Stage::Frames => 0 < held,
+        Stage::Skip(_) => true,
+        Stage::Done => false,
+    }
+}
