@@ -4,3 +4,4 @@ pub mod Placing
 pub mod Walking
 pub mod Outcomes
 pub mod Stepping
+pub mod Streaming

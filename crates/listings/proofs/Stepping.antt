@@ -1,17 +1,21 @@
 -- The cases of a step, as the code's tests find them.
 -- Assumes nothing.
 use mathlib.Core.Path.{_≡_, refl, sym, ap, _∙_}
+use mathlib.Core.Bool.{Bool, true, false}
 use mathlib.Core.List.{List, [], _∷_, _++_}
 use Prim.Native.Nat.{ℕ, suc, _+_, _-_, _≤_, _<_}
 use native.Mathlib.Omega.{arith}
 use lib.ListN.{length, getD, take, drop}
-use borrow.Author.Tests.{lt-ltb, le-ltb, eq-eqb, ne-eqb}
+use lib.Dec.{eqb, ltb, lit≤}
+use borrow.Author.Tests.{lt-ltb, le-ltb, ltb-false, eq-eqb, ne-eqb}
+use Rattle.text.specs.Choice.{pick}
 use Rattle.text.specs.Write.{Put}
 use Rattle.text.proofs.Putting.{put-as, put-none}
 use Rattle.bodies.specs.Body.{word}
 use Rattle.listings.specs.Frames.{bodyLength, bodyOf}
 use Rattle.listings.specs.Lines.{newline, refusedText, recordLine, versionLine}
-use Rattle.listings.specs.Stream.{Taken, taken, versionStep, frameStep, skipStep, Took}
+use Rattle.listings.specs.Stream.{Taken, taken, versionStep, frameStep, skipStep, stepped, Took}
+use Rattle.listings.proofs.Answered.{record-line-short}
 use Rattle.listings.specs.declared.Stage.{Stage}
 use Rattle.listings.specs.declared.Stage.the-variants.{Version, Frames, Skip, Done}
 
@@ -68,3 +72,40 @@ module _ (mode : ℕ) (xs : List ℕ) where
 
       pub frame-whole : 2 + n ≤ length xs → frameStep mode xs ≡ taken Frames (2 + n) (recordLine mode (take n (drop 2 xs)))
       frame-whole h = rw (le-ltb (length xs) 2 two, ← e, le-ltb 1289 n short, le-ltb (length xs) (2 + n) h)
+
+-- a step uses no more bytes than there are, and says no more than a line
+pub record Bounded (t : Taken) (xs : List ℕ) : Type 0 where
+  pub uses : t .used ≤ length xs
+  pub short : length (t .says) ≤ 257
+
+picked : (b : Bool) {t u : Taken} {xs : List ℕ} → (b ≡ true → Bounded t xs) → (b ≡ false → Bounded u xs) → Bounded (pick b t u) xs
+picked true f g = f refl
+picked false f g = g refl
+
+silent : (stage : Stage) (used : ℕ) (xs : List ℕ) → used ≤ length xs → Bounded (taken stage used []) xs
+silent stage used xs h = record { uses = h; short = lit≤ tt }
+
+pub bounded : (mode : ℕ) (stage : Stage) (xs : List ℕ) → Bounded (stepped mode stage xs) xs
+unfolding stepped
+bounded mode Version [] = silent Version 0 [] (lit≤ tt)
+bounded mode Version (v ∷ xs) =
+    picked (eqb v 1) (λ e. silent Frames 1 (v ∷ xs) (omega arith)) (λ e. record { uses = omega arith; short = lit≤ tt })
+bounded mode Frames xs =
+    picked (ltb (length xs) 2) (λ e. silent Frames 0 xs (omega arith))
+    (λ (two : ltb (length xs) 2 ≡ false).
+    picked (ltb 1289 (bodyLength xs)) (λ e. silent (Skip (bodyLength xs)) 2 xs (ltb-false (length xs) 2 two))
+    (λ e.
+    picked (ltb (length xs) (2 + bodyLength xs)) (λ e. silent Frames 0 xs (omega arith))
+    (λ (all : ltb (length xs) (2 + bodyLength xs) ≡ false).
+    record { uses = ltb-false (length xs) (2 + bodyLength xs) all; short = record-line-short mode (bodyOf xs) })))
+bounded mode (Skip left) xs =
+    picked (ltb (length xs) left) (λ e. silent (Skip (left - length xs)) (length xs) xs (omega arith))
+    (λ (all : ltb (length xs) left ≡ false). record { uses = ltb-false (length xs) left all; short = lit≤ tt })
+bounded mode Done xs = silent Done (length xs) xs (omega arith)
+
+-- so of the code's step: it uses no more than there is, and has room for the next
+pub used-within : (mode : ℕ) (stage : Stage) (xs : List ℕ) {before : List ℕ} {out : ℕ} {then : Stage} {used next : ℕ} {after : List ℕ} → Took (stepped mode stage xs) before out then used next after → used ≤ length xs
+used-within mode stage xs s = omega (arith, s .used-is, bounded mode stage xs .uses)
+
+pub next-within : (mode : ℕ) (stage : Stage) (xs : List ℕ) {before : List ℕ} {out : ℕ} {then : Stage} {used next : ℕ} {after : List ℕ} → Took (stepped mode stage xs) before out then used next after → next ≤ out + 257
+next-within mode stage xs s = omega (arith, s .put .next, bounded mode stage xs .short)

@@ -1,0 +1,101 @@
+-- `stdio::run` is safe and ends. The loop's invariant: the buffers keep their length, and what is held lies within one.
+-- Assumes nothing.
+use mathlib.Core.Path.{_≡_, refl, sym, _∙_}
+use Prim.Native.Nat.{_≤_}
+use native.Mathlib.Omega.{arith}
+use borrow.Author.Needs.{needs}
+use lib.ListN.{length}
+use Rattle.stdio.proofs.run.Statement.{statement}
+use Rattle.stdio.proofs.run.Tie as tie
+use Rattle.arms.specs.Arms.{arms as armTable}
+
+abbrev Inv-loop : tie.InvT-loop
+Inv-loop mode name-letters name-starts register-letters register-starts arms input₀ text₀ stage₀ held₀ turns₀ input text stage held turns = (held ≤ 65536) × (length input ≡ 65536) × (length text ≡ 65536)
+
+abbrev μ-loop : tie.MeasureT-loop
+μ-loop mode name-letters name-starts register-letters register-starts arms input₀ text₀ stage₀ held₀ turns₀ input text stage held turns = turns
+
+letters-requires : tie.Need-letters-requires Inv-loop μ-loop
+letters-requires c κs = search needs
+
+starts-requires : tie.Need-starts-requires Inv-loop μ-loop
+starts-requires c κs = search needs
+
+letters-requires-2 : tie.Need-letters-requires-2 Inv-loop μ-loop
+letters-requires-2 c κs = search needs
+
+starts-requires-2 : tie.Need-starts-requires-2 Inv-loop μ-loop
+starts-requires-2 c κs = search needs
+
+large-buffer-requires : tie.Need-large-buffer-requires Inv-loop μ-loop
+large-buffer-requires c κs = search needs
+
+large-buffer-requires-2 : tie.Need-large-buffer-requires-2 Inv-loop μ-loop
+large-buffer-requires-2 c κs = search needs
+
+loop-holds : tie.Need-loop-holds Inv-loop μ-loop
+loop-holds c = (omega arith, sym (c .before .large-buffer .ensures), sym (c .large-buffer2 .ensures))
+
+sub-turns : tie.Need-sub-turns Inv-loop μ-loop
+sub-turns c = omega arith
+
+slice-aggregate-round-of : tie.Need-slice-aggregate-round-of Inv-loop μ-loop
+slice-aggregate-round-of c = sym (c .before .before .before .before .before .before .before .loop .inv .1)
+
+slice-aggregate-round-of-2 : tie.Need-slice-aggregate-round-of-2 Inv-loop μ-loop
+slice-aggregate-round-of-2 c = sym (c .before .before .before .before .before .before .before .before .loop .inv .2)
+
+round-of-requires : tie.Need-round-of-requires Inv-loop μ-loop
+unfolding armTable
+round-of-requires c κs = (
+  record { text = (c .before .before .before .before .before .before .before .before .before .before .before .before .before .before .letters .ensures); places = (c .before .before .before .before .before .before .before .before .before .before .before .before .before .starts .ensures) },
+  (
+    record { text = (c .before .before .before .before .before .before .before .before .before .before .before .before .letters2 .ensures); places = (c .before .before .before .before .before .before .before .before .before .before .before .starts2 .ensures) },
+    (
+      refl,
+      (omega (arith, (c .before .before .before .before .before .before .before .before .loop .inv .0), (c .before .before .before .before .before .before .before .before .loop .inv .1)), omega (arith, (c .before .before .before .before .before .before .before .before .loop .inv .2))),
+    ),
+  ),
+)
+
+enum-told : tie.Need-enum-told Inv-loop μ-loop
+enum-told c = search needs
+
+loop-less : tie.Need-loop-less Inv-loop μ-loop
+loop-less c = omega arith
+
+loop-again : tie.Need-loop-again Inv-loop μ-loop
+loop-again c = (omega (arith, (c .before .before .before .before .round-of .ensures), (c .before .before .before .before .before .before .before .before .before .before .before .before .before .loop .inv .1)), (c .before .before .before .before .round-of .kept .1 .1 .1 .1 .1 .1 .1 .0) ∙ (c .before .before .before .before .before .before .before .before .before .before .before .before .before .loop .inv .1), (c .before .before .before .before .round-of .kept .1 .1 .1 .1 .1 .1 .1 .1 .1 .0) ∙ (c .before .before .before .before .before .before .before .before .before .before .before .before .before .loop .inv .2))
+
+finish-requires : tie.Need-finish-requires Inv-loop μ-loop
+finish-requires c κs = search needs
+
+returns : tie.Need-returns Inv-loop μ-loop
+returns c = search needs
+
+returns-2 : tie.Need-returns-2 Inv-loop μ-loop
+returns-2 c = search needs
+
+pub run-spec : {M : Type 1} → statement M
+run-spec =
+    tie.close
+    (tie.spec
+    Inv-loop
+    μ-loop
+    letters-requires
+    starts-requires
+    letters-requires-2
+    starts-requires-2
+    large-buffer-requires
+    large-buffer-requires-2
+    loop-holds
+    sub-turns
+    slice-aggregate-round-of
+    slice-aggregate-round-of-2
+    round-of-requires
+    enum-told
+    loop-less
+    loop-again
+    finish-requires
+    returns
+    returns-2)
