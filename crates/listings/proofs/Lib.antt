@@ -5,3 +5,4 @@ pub mod Walking
 pub mod Outcomes
 pub mod Stepping
 pub mod Streaming
+pub mod Unique

@@ -1,9 +1,9 @@
 // A listing: a version byte, then frames, each a record and its line.
-pub mod frames;
+mod frames;
 pub mod print;
-pub mod record_line;
+mod record_line;
 pub mod stream;
-pub mod walk;
+mod walk;
 
 // What stands at a place of a listing: a whole frame, by the places of its body, or too few bytes for one.
 pub enum Frame {

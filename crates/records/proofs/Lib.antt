@@ -1,2 +1,4 @@
 pub mod Outcomes
 pub mod Judging
+pub mod Unique
+pub mod Lines

@@ -1,4 +1,6 @@
--- What an entry point returns, and the outcome of one record. Definitions only: the laws are in proofs/.
+-- What an entry point returns, the outcome of one record, and document 01's lines to prove. Definitions only: the laws are in proofs/.
 pub mod Answers
+pub mod Table
 pub mod Records
 pub mod Judged
+pub mod Lines
