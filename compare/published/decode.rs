@@ -3,6 +3,10 @@
 //! oracle's. The code is the text section of each file, and two million tries of random bytes.
 //! FOLDER gets `listing` and `lines`, for the listing program of mode 0.
 
+#[path = "elf.rs"]
+mod elf;
+
+use elf::text_section;
 use oracle::{line_into, name_of, Record, Sink, Slot};
 use records::Random;
 use std::collections::{BTreeMap, HashMap};
@@ -169,21 +173,4 @@ fn kind_of_difference(name: &str, ours: &str, theirs: &str) -> String {
     let refused = ours.strip_prefix("; ").unwrap_or("a line");
     let mark = if theirs.contains("BUG") { " with BUG" } else { "" };
     format!("{name}: {refused} against a line{mark}")
-}
-
-/// The bytes of `.text` in a little-endian 32-bit ELF file.
-fn text_section(file: &[u8]) -> Option<&[u8]> {
-    let half = |at: usize| Some(u16::from_le_bytes(file.get(at..at + 2)?.try_into().ok()?) as usize);
-    let word = |at: usize| Some(u32::from_le_bytes(file.get(at..at + 4)?.try_into().ok()?) as usize);
-    if file.get(..5)? != b"\x7fELF\x01" {
-        return None;
-    }
-    let (headers, size, count, names) = (word(32)?, half(46)?, half(48)?, half(50)?);
-    let name_table = word(headers + size * names + 16)?;
-    (0..count).find_map(|number| {
-        let header = headers + size * number;
-        let name = name_table + word(header)?;
-        let (start, length) = (word(header + 16)?, word(header + 20)?);
-        (file.get(name..name + 6)? == b".text\0").then(|| file.get(start..start + length))?
-    })
 }

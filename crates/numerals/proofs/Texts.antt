@@ -40,9 +40,9 @@ unfolding displacement
 length-displacement d = length-append (sign d) (numeral (natAbs d)) ∙ rw (length-sign d)
 
 -- a figure by its top digit
-pub figure-by : (k v : ℕ) {digit : ℕ} → digit ≡ top k v → figure k v ≡ when (leb 10 digit) (bytes "0") ++ digits k v
+pub figure-by : (k v : ℕ) {digit : ℕ} {needed : Bool} → digit ≡ top k v → needed ≡ leb 10 digit → figure k v ≡ when needed (bytes "0") ++ digits k v
 unfolding figure
-figure-by k v e = rw e
+figure-by k v e n = rw (n, e)
 
 -- a numeral by its places, its top digit and the test for the h
 pub top-by : {v n d : ℕ} → TopOf v n d → d ≡ top n v

@@ -9,13 +9,20 @@ ghost use Rattle.numerals.specs.Digits.{top};
 ghost use Rattle.numerals.specs.Numerals.{figure, hexAmbiguous, numeral as numeralOf};
 use crate::digits;
 
+// MASM takes a word that begins with a letter for a name: by the top digit.
+pub fn needs_leading_0(digit: u32) -> bool
+    ensures { λ r. ⌜ r ≡ leb 10 digit ⌝ }
+{
+    10 <= digit
+}
+
 // k digits, with a 0 in front where the top one is a letter: the one place where numerals and absolutes meet.
 pub fn put_figure(buf: &mut [u8], at: usize, k: usize, digit: u32, v: u32) -> usize
     requires { ⌜ digit ≡ top k v ⌝ }
     requires { ⌜ Room (now buf) at (figure k v) ⌝ }
     ensures { λ r. ⌜ Put (now (buf .entry)) at (figure k v) r (now (buf .exit)) ⌝ }
 {
-    let next = text::put_when(buf, at, 10 <= digit, b"0");
+    let next = text::put_when(buf, at, needs_leading_0(digit), b"0");
     digits::put_digits(buf, next, k, v)
 }
 
@@ -41,7 +48,7 @@ pub fn figure_length(k: usize, digit: u32) -> usize
     ensures { λ r. ⌜ r ≡ pick (leb 10 digit) 1 0 + k ⌝ }
     ensures { λ r. ⌜ r ≤ k + 1 ⌝ }
 {
-    text::length_when(10 <= digit, 1) + k
+    text::length_when(needs_leading_0(digit), 1) + k
 }
 
 pub fn numeral_length(v: u32) -> usize

@@ -1,0 +1,263 @@
+//! `judge FOLDER LISTING ASMC AS`: our lines, assembled, and what came out of it. LISTING holds records that
+//! the published crate decoded; a few of each opcode and form are taken. ASMC and AS are programs (`-`:
+//! none): ASMC FILE.asm leaves FILE.bin, AS FILE.s -o FILE.o an ELF object. The bytes go back through the
+//! published crate's decoder, and the record there is held to the record that the line came from:
+//! operands, segments, and where a branch goes, in both modes.
+
+#[path = "elf.rs"]
+mod elf;
+
+use oracle::{line_into, name_of, Record, Sink, Slot};
+use std::collections::{BTreeMap, BTreeSet, HashMap};
+use std::process::{Command, Stdio};
+use yaxpeax_x86::protected_mode::records::fields;
+use yaxpeax_x86::protected_mode::InstDecoder;
+
+/// Records of one opcode with the same kinds, size, segment and prefix words: so many are taken.
+const OF_A_FORM: usize = 1;
+/// And so many of one opcode, the most unlike first; wrapped short branches beside them.
+const OF_AN_OPCODE: usize = 12;
+const WRAPPED: usize = 3;
+
+#[derive(Clone, Copy, PartialEq, Eq, PartialOrd, Ord, Debug)]
+enum Judge {
+    Asmc,
+    As,
+}
+
+/// What an assembler made of a line.
+enum Read {
+    Refused(String),
+    /// accepted only after `assume fs:nothing, gs:nothing`
+    Assumed(Vec<u8>),
+    Bytes(Vec<u8>),
+}
+
+fn main() {
+    std::panic::set_hook(Box::new(|_| {}));
+    let words: Vec<String> = std::env::args().skip(1).collect();
+    let [folder, listing, asmc, gas] = &words[..] else {
+        eprintln!("use: judge FOLDER LISTING ASMC AS");
+        std::process::exit(2);
+    };
+    let listing = std::fs::read(listing).expect("the listing can be read");
+    let sample = sample(&listing);
+    let numbers: HashMap<String, u16> =
+        (0..154).map(|number| (name_of(number).to_uppercase(), number)).collect();
+    // a line once, with the first record that prints it; branches in both modes
+    let mut asked: Vec<(Record, u32, String)> = Vec::new();
+    for record in &sample {
+        let (crate_line, straight) = (line(record, 0), line(record, 1));
+        if crate_line != straight {
+            asked.push((*record, 1, straight));
+        }
+        asked.push((*record, 0, crate_line));
+    }
+    let opcodes: BTreeSet<u16> = sample.iter().map(|record| record.opcode).collect();
+    println!("{} records of {} opcodes, {} lines", sample.len(), opcodes.len(), asked.len());
+    for (judge, program) in [(Judge::Asmc, asmc), (Judge::As, gas)] {
+        if program == "-" {
+            println!("\n{judge:?}: not run");
+            continue;
+        }
+        let mut table: BTreeMap<String, Vec<(String, String)>> = BTreeMap::new();
+        for (record, mode, line) in &asked {
+            let (verdict, seen) = verdict(judge, folder, program, record, *mode, line, &numbers);
+            table.entry(verdict).or_default().push((line.clone(), seen));
+        }
+        println!("\n{judge:?}");
+        for (verdict, lines) in &table {
+            println!("  {:5}  {verdict}", lines.len());
+        }
+        for (verdict, lines) in &table {
+            if verdict.starts_with("as the record") {
+                continue;
+            }
+            println!("\n{judge:?}, {verdict}:");
+            let mut names: BTreeMap<&str, usize> = BTreeMap::new();
+            for (line, seen) in lines {
+                let name = line.split(' ').next().unwrap_or("");
+                let before = names.entry(name).or_default();
+                *before += 1;
+                if *before <= 3 {
+                    println!("    {line:60} {seen}");
+                }
+            }
+            let names: Vec<String> = names.iter().map(|(name, count)| format!("{name} {count}")).collect();
+            println!("  = {}", names.join(", "));
+        }
+    }
+}
+
+/// The line of an accepted record.
+fn line(record: &Record, mode: u32) -> String {
+    let mut out = Sink::default();
+    line_into(&record.body(), mode, &mut out).expect("000 prints what document 01 accepts");
+    String::from_utf8_lossy(&out.0).into_owned()
+}
+
+fn short_wraps(record: &Record) -> bool {
+    is_branch(record) && line(record, 0) != line(record, 1)
+}
+
+fn is_branch(record: &Record) -> bool {
+    record.opcode < 23 && record.count > 0 && matches!(record.slots[0].kind, 3 | 5)
+}
+
+fn sample(listing: &[u8]) -> Vec<Record> {
+    let mut forms: BTreeMap<(u16, Vec<u8>), usize> = BTreeMap::new();
+    let mut counts: BTreeMap<(u16, bool), usize> = BTreeMap::new();
+    let mut taken = Vec::new();
+    let mut rest = &listing[1..];
+    while let Some((length, behind)) = rest.split_first_chunk::<2>() {
+        let (body, behind) = behind.split_at(u16::from_be_bytes(*length) as usize);
+        rest = behind;
+        let mut out = Sink::default();
+        let Ok(record) = Record::read(body) else { continue };
+        if line_into(body, 0, &mut out) != Ok(0) {
+            continue;
+        }
+        let wraps = short_wraps(&record);
+        let mut form = vec![record.mem_size, wraps as u8, record.flags & 31];
+        for slot in &record.slots[..record.count as usize] {
+            // the registers' banks, not their numbers; a segment or none
+            let bank = if slot.is_register() { slot.bank() } else { 0 };
+            form.extend([slot.kind, bank, slot.segment / 5]);
+        }
+        let form = forms.entry((record.opcode, form)).or_default();
+        let count = counts.entry((record.opcode, wraps)).or_default();
+        if *form < OF_A_FORM && *count < if wraps { WRAPPED } else { OF_AN_OPCODE } {
+            *form += 1;
+            *count += 1;
+            taken.push(record);
+        }
+    }
+    taken.sort_by_key(|record| record.opcode);
+    taken
+}
+
+/// Where a branch goes, from its first byte on.
+fn target(record: &Record) -> u32 {
+    let distance = if record.slots[0].kind == 3 { record.imm as i8 as u32 } else { record.imm };
+    distance.wrapping_add(record.length as u32)
+}
+
+fn verdict(
+    judge: Judge, folder: &str, program: &str, record: &Record, mode: u32, line: &str, numbers: &HashMap<String, u16>,
+) -> (String, String) {
+    let (bytes, how) = match assemble(judge, folder, program, line) {
+        Read::Refused(why) => return ("refused".into(), why),
+        Read::Assumed(bytes) => (bytes, ", once fs and gs are assumed nothing"),
+        Read::Bytes(bytes) => (bytes, ""),
+    };
+    let hex: String = bytes.iter().map(|byte| format!("{byte:02x}")).collect();
+    let Ok(instruction) = InstDecoder::default().decode_slice(&bytes) else {
+        return ("bytes that the crate does not decode".into(), hex);
+    };
+    let opcode = numbers.get(&format!("{:?}", instruction.opcode())).copied();
+    let Some((opcode, parts)) = opcode.zip(fields(&instruction)) else {
+        return ("another instruction".into(), format!("{hex} {instruction}"));
+    };
+    let back = Record {
+        opcode,
+        flags: parts.flags,
+        length: parts.length,
+        mem_size: parts.mem_size,
+        imm: parts.imm,
+        disp: parts.disp as i32,
+        count: parts.count,
+        slots: parts.slots.map(|[kind, segment, first, second, scale]| Slot { kind, segment, first, second, scale }),
+    };
+    if parts.length as usize != bytes.len() {
+        return ("more than one instruction".into(), format!("{hex} {instruction}"));
+    }
+    if is_branch(record) && is_branch(&back) && record.opcode == back.opcode {
+        return if target(record) == target(&back) {
+            (format!("as the record, a branch in mode {mode}{how}"), hex)
+        } else {
+            (format!("another target, mode {mode}"), format!("goes to {:+}, record {:+}", target(&back) as i32, target(record) as i32))
+        };
+    }
+    let mut out = Sink::default();
+    let read = match line_into(&back.body(), 1, &mut out) {
+        Ok(0) => String::from_utf8_lossy(&out.0).into_owned(),
+        _ => instruction.to_string(),
+    };
+    let seen = format!("{hex} {read}");
+    if read != line {
+        return ("another line".into(), seen);
+    }
+    // a segment that stands in the record and neither in the line nor, so, in the bytes
+    let hidden = record.slots[..record.count as usize].iter().any(|slot| slot.is_memory() && slot.segment > 0 && slot.segment != 4)
+        && !back.slots.iter().any(|slot| slot.is_memory() && slot.segment > 0);
+    if hidden {
+        return ("the record's segment is gone".into(), seen);
+    }
+    (format!("as the record{how}"), seen)
+}
+
+fn assemble(judge: Judge, folder: &str, program: &str, line: &str) -> Read {
+    match judge {
+        Judge::Asmc => match asmc(folder, program, "", line) {
+            Ok(bytes) => Read::Bytes(bytes),
+            Err(why) if line.contains("fs:") || line.contains("gs:") => {
+                match asmc(folder, program, "assume fs:nothing, gs:nothing\n", line) {
+                    Ok(bytes) => Read::Assumed(bytes),
+                    Err(_) => Read::Refused(why),
+                }
+            }
+            Err(why) => Read::Refused(why),
+        },
+        Judge::As => {
+            let (file, object) = (format!("{folder}/line.s"), format!("{folder}/line.o"));
+            let _ = std::fs::remove_file(&object);
+            std::fs::write(&file, format!("{}\n", for_as(line))).expect("the folder can be written");
+            let said = Command::new(program).args([&file, "-o", &object]).output().expect("as can be started");
+            let said = String::from_utf8_lossy(&said.stderr).into_owned() + &String::from_utf8_lossy(&said.stdout);
+            let bytes = std::fs::read(&object).ok().and_then(|object| elf::text_section(&object).map(<[u8]>::to_vec));
+            bytes.filter(|bytes| !bytes.is_empty()).map_or_else(|| Read::Refused(last(&said)), Read::Bytes)
+        }
+    }
+}
+
+fn asmc(folder: &str, program: &str, head: &str, line: &str) -> Result<Vec<u8>, String> {
+    let (file, made) = (format!("{folder}/line.asm"), format!("{folder}/line.bin"));
+    let _ = std::fs::remove_file(&made);
+    let text = format!(".686p\n.mmx\n.xmm\n.model flat\n{head}.code\n{line}\nend\n");
+    std::fs::write(&file, text).expect("the folder can be written");
+    let said = Command::new(program).arg("line.asm").current_dir(folder).stdin(Stdio::null()).output().expect("asmc can be started");
+    let said = String::from_utf8_lossy(&said.stdout).into_owned() + &String::from_utf8_lossy(&said.stderr);
+    match std::fs::read(&made) {
+        Ok(bytes) if !bytes.is_empty() => Ok(bytes),
+        _ => Err(last(&said)),
+    }
+}
+
+/// The last line that an assembler said, without the place.
+fn last(said: &str) -> String {
+    let line = said.lines().rev().find(|line| line.to_lowercase().contains("error")).unwrap_or("no code");
+    line.find("rror").map_or(line, |at| &line[at - 1..]).to_string()
+}
+
+/// Intel syntax as GNU as reads it: `0ABCDh` is `0xABCD`, `$` is `.`.
+fn for_as(line: &str) -> String {
+    let mut out = String::new();
+    let mut word = String::new();
+    for letter in line.chars().chain(['\n']) {
+        if letter.is_ascii_alphanumeric() {
+            word.push(letter);
+            continue;
+        }
+        match word.strip_suffix('h') {
+            Some(digits) if word.starts_with(|first: char| first.is_ascii_digit()) => out += &format!("0x{digits}"),
+            _ => out += &word,
+        }
+        word.clear();
+        match letter {
+            '$' => out.push('.'),
+            '\n' => {}
+            _ => out.push(letter),
+        }
+    }
+    out
+}
