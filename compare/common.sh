@@ -145,3 +145,10 @@ standin() {
     LIST_MODE=0 rustc --edition 2021 -C opt-level=3 --crate-name list_crate -o "$2/list_crate" --extern "direct=$2/libdirect.rlib" "$1/standin/list.rs" || return
     LIST_MODE=1 rustc --edition 2021 -C opt-level=3 --crate-name list_straight -o "$2/list_straight" --extern "direct=$2/libdirect.rlib" "$1/standin/list.rs"
 }
+
+# apt_mirror: the Debian mirror that this machine's own apt sources name
+apt_mirror() {
+    cat /etc/apt/sources.list /etc/apt/sources.list.d/* 2>/dev/null |
+        sed -n -e 's/^URIs:[[:space:]]*\([^[:space:]]*\).*/\1/p' -e 's/^deb[[:space:]]\{1,\}\(\[[^]]*\][[:space:]]*\)\{0,1\}\([^[:space:]]*\).*/\2/p' |
+        grep -v security | head -n 1
+}

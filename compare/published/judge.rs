@@ -13,11 +13,11 @@ use std::process::{Command, Stdio};
 use yaxpeax_x86::protected_mode::records::fields;
 use yaxpeax_x86::protected_mode::InstDecoder;
 
-/// Records of one opcode with the same kinds, size, segment and prefix words: so many are taken.
-const OF_A_FORM: usize = 1;
-/// And so many of one opcode, the most unlike first; wrapped short branches beside them.
+/// Of records of one opcode with the same kinds, banks, size and prefix words one is taken, and of one
+/// opcode so many; beside them wrapped short branches, and memory in another segment than ds.
 const OF_AN_OPCODE: usize = 12;
 const WRAPPED: usize = 3;
+const ELSEWHERE: usize = 4;
 
 #[derive(Clone, Copy, PartialEq, Eq, PartialOrd, Ord, Debug)]
 enum Judge {
@@ -46,7 +46,12 @@ fn main() {
         (0..154).map(|number| (name_of(number).to_uppercase(), number)).collect();
     // a line once, with the first record that prints it; branches in both modes
     let mut asked: Vec<(Record, u32, String)> = Vec::new();
+    let mut seen = BTreeSet::new();
     for record in &sample {
+        let what = (is_branch(record).then(|| target(record)), elsewhere(record));
+        if !seen.insert((line(record, 1), what)) {
+            continue;
+        }
         let (crate_line, straight) = (line(record, 0), line(record, 1));
         if crate_line != straight {
             asked.push((*record, 1, straight));
@@ -75,11 +80,12 @@ fn main() {
             }
             println!("\n{judge:?}, {verdict}:");
             let mut names: BTreeMap<&str, usize> = BTreeMap::new();
-            for (line, seen) in lines {
+            let few = verdict.contains("target") || verdict.contains("refused, a lone");
+            for (at, (line, seen)) in lines.iter().enumerate() {
                 let name = line.split(' ').next().unwrap_or("");
                 let before = names.entry(name).or_default();
                 *before += 1;
-                if *before <= 3 {
+                if if few { at < 5 } else { *before <= 2 } {
                     println!("    {line:60} {seen}");
                 }
             }
@@ -104,9 +110,14 @@ fn is_branch(record: &Record) -> bool {
     record.opcode < 23 && record.count > 0 && matches!(record.slots[0].kind, 3 | 5)
 }
 
+/// Memory in fs or gs, which no address has by itself.
+fn elsewhere(record: &Record) -> bool {
+    record.slots[..record.count as usize].iter().any(|slot| slot.is_memory() && slot.segment > 4)
+}
+
 fn sample(listing: &[u8]) -> Vec<Record> {
-    let mut forms: BTreeMap<(u16, Vec<u8>), usize> = BTreeMap::new();
-    let mut counts: BTreeMap<(u16, bool), usize> = BTreeMap::new();
+    let mut forms: BTreeSet<(u16, Vec<u8>)> = BTreeSet::new();
+    let mut counts: BTreeMap<(u16, bool, bool), usize> = BTreeMap::new();
     let mut taken = Vec::new();
     let mut rest = &listing[1..];
     while let Some((length, behind)) = rest.split_first_chunk::<2>() {
@@ -118,22 +129,48 @@ fn sample(listing: &[u8]) -> Vec<Record> {
             continue;
         }
         let wraps = short_wraps(&record);
+        let elsewhere = elsewhere(&record);
+        let most = if wraps { WRAPPED } else if elsewhere { ELSEWHERE } else { OF_AN_OPCODE };
         let mut form = vec![record.mem_size, wraps as u8, record.flags & 31];
         for slot in &record.slots[..record.count as usize] {
-            // the registers' banks, not their numbers; a segment or none
             let bank = if slot.is_register() { slot.bank() } else { 0 };
             form.extend([slot.kind, bank, slot.segment / 5]);
         }
-        let form = forms.entry((record.opcode, form)).or_default();
-        let count = counts.entry((record.opcode, wraps)).or_default();
-        if *form < OF_A_FORM && *count < if wraps { WRAPPED } else { OF_AN_OPCODE } {
-            *form += 1;
+        let count = counts.entry((record.opcode, wraps, elsewhere)).or_default();
+        if *count < most && forms.insert((record.opcode, form)) {
             *count += 1;
             taken.push(record);
         }
     }
+    // the decoder hardly meets the segments that a line drops: one such record for each opcode
+    let mut dropped: BTreeMap<u16, Record> = BTreeMap::new();
+    for record in &taken {
+        let mut there = *record;
+        let memory = there.slots.iter_mut().find(|slot| slot.is_memory() && slot.segment == 0 && slot.kind > 10);
+        if memory.map(|slot| slot.segment = 5).is_some() && line(&there, 0) == line(record, 0) {
+            dropped.entry(record.opcode).or_insert(there);
+        }
+    }
+    taken.extend(dropped.into_values());
     taken.sort_by_key(|record| record.opcode);
     taken
+}
+
+/// What a line that is not read as it stands has in common with others.
+fn form(line: &str) -> &'static str {
+    let word = line.split(' ').next().unwrap_or("");
+    let lone = line.split('[').skip(1).any(|inside| inside.split(']').next().is_some_and(|inside| !inside.contains('e') && !inside.contains(' ') && inside.starts_with(|first: char| first.is_ascii_digit())));
+    if lone && !line.contains(":[") {
+        "a lone number in a bracket, no segment"
+    } else if matches!(word, "jecxz" | "loop" | "loopz" | "loopnz") {
+        "a branch with one byte for its distance"
+    } else if matches!(word, "xacquire" | "xrelease" | "lock" | "rep" | "repne") {
+        "a prefix word"
+    } else if line.contains(":[") {
+        "a segment"
+    } else {
+        "the name or its operands"
+    }
 }
 
 /// Where a branch goes, from its first byte on.
@@ -146,7 +183,7 @@ fn verdict(
     judge: Judge, folder: &str, program: &str, record: &Record, mode: u32, line: &str, numbers: &HashMap<String, u16>,
 ) -> (String, String) {
     let (bytes, how) = match assemble(judge, folder, program, line) {
-        Read::Refused(why) => return ("refused".into(), why),
+        Read::Refused(why) => return (format!("refused, {}", form(line)), why),
         Read::Assumed(bytes) => (bytes, ", once fs and gs are assumed nothing"),
         Read::Bytes(bytes) => (bytes, ""),
     };
@@ -185,13 +222,11 @@ fn verdict(
     };
     let seen = format!("{hex} {read}");
     if read != line {
-        return ("another line".into(), seen);
+        return (format!("another line, {}", form(line)), seen);
     }
     // a segment that stands in the record and neither in the line nor, so, in the bytes
-    let hidden = record.slots[..record.count as usize].iter().any(|slot| slot.is_memory() && slot.segment > 0 && slot.segment != 4)
-        && !back.slots.iter().any(|slot| slot.is_memory() && slot.segment > 0);
-    if hidden {
-        return ("the record's segment is gone".into(), seen);
+    if elsewhere(record) && !elsewhere(&back) {
+        return ("the record's fs or gs is gone".into(), seen);
     }
     (format!("as the record{how}"), seen)
 }
@@ -211,7 +246,7 @@ fn assemble(judge: Judge, folder: &str, program: &str, line: &str) -> Read {
         Judge::As => {
             let (file, object) = (format!("{folder}/line.s"), format!("{folder}/line.o"));
             let _ = std::fs::remove_file(&object);
-            std::fs::write(&file, format!("{}\n", for_as(line))).expect("the folder can be written");
+            std::fs::write(&file, format!(".intel_syntax noprefix\n{}\n", for_as(line))).expect("the folder can be written");
             let said = Command::new(program).args([&file, "-o", &object]).output().expect("as can be started");
             let said = String::from_utf8_lossy(&said.stderr).into_owned() + &String::from_utf8_lossy(&said.stdout);
             let bytes = std::fs::read(&object).ok().and_then(|object| elf::text_section(&object).map(<[u8]>::to_vec));
