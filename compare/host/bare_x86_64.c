@@ -40,12 +40,23 @@ void *mmap(void *at, u64 size, int access, int flags, int file, i64 offset)
 int mprotect(void *at, u64 size, int access) { return (int)ask(10, (i64)at, (i64)size, access, 0, 0, 0); }
 int clock_gettime(int clock, i64 *time) { return (int)ask(228, clock, (i64)time, 0, 0, 0, 0); }
 
+/* The texts that printers copy are short, for which `rep movs` is slow: it would be timed too. */
 void *memcpy(void *to, const void *from, u64 count)
 {
-	void *at = to;
-	u64 words = count / 8, rest = count % 8;
-	__asm__ volatile("rep movsq" : "+D"(at), "+S"(from), "+c"(words) : : "memory");
-	__asm__ volatile("rep movsb" : "+D"(at), "+S"(from), "+c"(rest) : : "memory");
+	u8 *target = to;
+	const u8 *source = from;
+	for (; count >= 8; target += 8, source += 8, count -= 8)
+		__builtin_memcpy(target, source, 8);
+	if (count & 4) {
+		__builtin_memcpy(target, source, 4);
+		target += 4, source += 4;
+	}
+	if (count & 2) {
+		__builtin_memcpy(target, source, 2);
+		target += 2, source += 2;
+	}
+	if (count & 1)
+		*target = *source;
 	return to;
 }
 
