@@ -3,8 +3,9 @@
 //! The hosts come in the variable BENCH_HOSTS, one to a line: a label, a tab, a command. Each is the
 //! C host (`host/driver.c`) over one printer, so all are timed by the same code: one call prints the
 //! whole listing from memory to memory. The programs come in BENCH_PROGRAMS in the same way and are
-//! timed as processes, from a file to nowhere. Times are processor time, so that what else runs on the
-//! machine counts as little as can be.
+//! timed as processes, from a file to nowhere. BENCH_ZYDIS is `timing/zydis.c`'s program, or empty; it
+//! times itself. Times are processor time, so that what else runs on the machine counts as little as
+//! can be.
 
 mod chart;
 mod mix;
@@ -36,6 +37,7 @@ fn main() {
     }
     let input = format!("{folder}/listing");
     std::fs::write(&input, &listing).expect("the folder can be written");
+    rows.extend(time_zydis(&command("BENCH_ZYDIS"), &input));
     for (label, command) in pairs("BENCH_PROGRAMS") {
         rows.push(time_program(&label, &command, &listing, &text.0, &input));
     }
@@ -62,6 +64,25 @@ fn time_host(label: &str, command: &str, listing: &[u8], text: &[u8], room: usiz
     }
     let rounds = host.time_listing(listing, 0, room, ROUNDS).expect("the host lives");
     Row::new(label, rounds.iter().map(|&(_, took)| took as f64 / RECORDS as f64).collect())
+}
+
+/// Zydis prints in its own words, so its text is only held to have a line for each record.
+fn time_zydis(command: &str, input: &str) -> Vec<Row> {
+    if command.is_empty() {
+        return Vec::new();
+    }
+    let run = |rounds: u32| {
+        let output = Command::new(command).args([input, &rounds.to_string()]).output().expect("Zydis's program starts");
+        assert!(output.status.success(), "{command}: {}", String::from_utf8_lossy(&output.stderr));
+        String::from_utf8(output.stdout).expect("Zydis writes ASCII")
+    };
+    assert_eq!(run(0).lines().count(), RECORDS, "Zydis drops or adds lines");
+    let row = |line: &str| {
+        let start = line.find(|c: char| c.is_ascii_digit()).expect("each line has times");
+        let times = line[start..].split(' ').map(|took| took.parse::<f64>().expect("a time is a number") / RECORDS as f64);
+        Row::new(&format!("Zydis, {}", line[..start].trim_end()), times.collect())
+    };
+    run(ROUNDS).lines().map(row).collect()
 }
 
 fn time_program(label: &str, command: &str, listing: &[u8], text: &[u8], input: &str) -> Row {

@@ -22,26 +22,23 @@ pub fn table(rows: &[Row]) -> String {
     table.replacen("nanoseconds a record     best   middle", &format!("{:<52} {:>8} {:>8}", "nanoseconds a record", "best", "middle"), 1)
 }
 
-/// Bars for the best round, a line for the middle one. Beside emulated rows the others are grey: the
-/// two kinds do not compare.
+/// Bars for the best round, a mark for the middle one.
 pub fn svg(rows: &[Row]) -> String {
     const LEFT: f64 = 360.0;
     const WIDE: f64 = 420.0;
     const HIGH: f64 = 30.0;
     let most = rows.iter().map(|row| row.middle).fold(1.0, f64::max);
     let height = 50.0 + HIGH * rows.len() as f64;
-    let emulated = |label: &str| label.contains("emulated");
-    let mixed = rows.iter().any(|row| emulated(&row.label));
     let mut svg = format!(
         "<svg xmlns=\"http://www.w3.org/2000/svg\" width=\"{}\" height=\"{height}\" font-family=\"sans-serif\" font-size=\"13\">\n\
          <rect width=\"100%\" height=\"100%\" fill=\"white\"/>\n\
-         <text x=\"10\" y=\"22\" font-weight=\"bold\">Nanoseconds a record (bar: best round, mark: middle round{})</text>\n",
+         <text x=\"10\" y=\"22\" font-weight=\"bold\">Nanoseconds a record (bar: best round, mark: middle round; blue: ours)</text>\n",
         LEFT + WIDE + 90.0,
-        if mixed { "; blue: emulated, grey: not" } else { "" }
     );
     for (at, Row { label, best, middle }) in rows.iter().enumerate() {
         let top = 38.0 + HIGH * at as f64;
         let long = |value: f64| value / most * WIDE;
+        let ours = label.starts_with("the archive") || label.starts_with("list_");
         svg += &format!(
             "<text x=\"{:.0}\" y=\"{:.0}\" text-anchor=\"end\">{}</text>\n\
              <rect x=\"{LEFT}\" y=\"{top:.0}\" width=\"{:.1}\" height=\"18\" fill=\"{}\"/>\n\
@@ -49,7 +46,7 @@ pub fn svg(rows: &[Row]) -> String {
              <text x=\"{:.1}\" y=\"{:.0}\">{best:.0}</text>\n",
             LEFT - 8.0, top + 14.0, escape(label),
             long(*best),
-            if mixed && !emulated(label) { "#b0b0b0" } else { "#4878a8" },
+            if ours { "#4878a8" } else { "#b0b0b0" },
             LEFT + long(*middle), top - 2.0,
             LEFT + long(*middle) + 8.0, top + 14.0,
         );

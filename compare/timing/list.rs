@@ -1,5 +1,5 @@
-//! A listing program over `direct` in mode 0 that needs no Rust library: standard input to standard
-//! output through 64 KiB each. It is the Rust beside the listing programs where these are emulated.
+//! A listing program over `direct` in mode 0: standard input to standard output through 64 KiB each, as
+//! the listing programs have it. It is the Rust that the benchmark sets beside them.
 
 #![no_std]
 
