@@ -5,9 +5,12 @@
 
 #[path = "elf.rs"]
 mod elf;
+#[path = "record_of.rs"]
+mod record_of;
 
 use elf::text_section;
-use oracle::{line_into, name_of, Record, Sink, Slot};
+use oracle::{line_into, name_of, Sink};
+use record_of::record_of;
 use records::Random;
 use std::collections::{BTreeMap, HashMap};
 use std::panic::{catch_unwind, AssertUnwindSafe};
@@ -111,17 +114,7 @@ impl Found {
             *self.unheld.entry(name_of(opcode).into()).or_default() += 1;
             return length;
         };
-        let body = Record {
-            opcode,
-            flags: parts.flags,
-            length: parts.length,
-            mem_size: parts.mem_size,
-            imm: parts.imm,
-            disp: parts.disp as i32,
-            count: parts.count,
-            slots: parts.slots.map(|[kind, segment, first, second, scale]| Slot { kind, segment, first, second, scale }),
-        }
-        .body();
+        let body = record_of(opcode, &parts).body();
         *self.opcodes.entry(opcode).or_default() += 1;
         let mut theirs = String::new();
         let printed = catch_unwind(AssertUnwindSafe(|| line(instruction, &mut theirs)));

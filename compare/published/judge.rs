@@ -6,8 +6,11 @@
 
 #[path = "elf.rs"]
 mod elf;
+#[path = "record_of.rs"]
+mod record_of;
 
-use oracle::{line_into, name_of, Record, Sink, Slot};
+use oracle::{line_into, name_of, Record, Sink};
+use record_of::record_of;
 use std::collections::{BTreeMap, BTreeSet, HashMap};
 use std::process::{Command, Stdio};
 use yaxpeax_x86::protected_mode::records::fields;
@@ -195,16 +198,7 @@ fn verdict(
     let Some((opcode, parts)) = opcode.zip(fields(&instruction)) else {
         return ("another instruction".into(), format!("{hex} {instruction}"));
     };
-    let back = Record {
-        opcode,
-        flags: parts.flags,
-        length: parts.length,
-        mem_size: parts.mem_size,
-        imm: parts.imm,
-        disp: parts.disp as i32,
-        count: parts.count,
-        slots: parts.slots.map(|[kind, segment, first, second, scale]| Slot { kind, segment, first, second, scale }),
-    };
+    let back = record_of(opcode, &parts);
     if parts.length as usize != bytes.len() {
         return ("more than one instruction".into(), format!("{hex} {instruction}"));
     }

@@ -5,35 +5,13 @@
 use super::display::masm::contextualize;
 use super::{Instruction, OperandSpec, RegSpec, RegisterBank, Segment};
 use core::fmt;
-use yaxpeax_arch::{AddressDiff, LengthedInstruction};
+use yaxpeax_arch::LengthedInstruction;
 
-/// An empty stand-in for what version 2.0.0 has not: no item is replaced by a caller's text.
-pub trait DisplayRules<T> {
-    fn emit_register(&self, _: RegSpec, _: &mut T) -> Result<bool, fmt::Error> {
-        Ok(false)
-    }
-    fn emit_signed_immediate(&self, _: i32, _: &mut T) -> Result<bool, fmt::Error> {
-        Ok(false)
-    }
-    fn emit_unsigned_immediate(&self, _: u32, _: &mut T) -> Result<bool, fmt::Error> {
-        Ok(false)
-    }
-    fn emit_absolute_address(&self, _: u32, _: &mut T) -> Result<bool, fmt::Error> {
-        Ok(false)
-    }
-    fn emit_far_address(&self, _: u16, _: u32, _: &mut T) -> Result<bool, fmt::Error> {
-        Ok(false)
-    }
-    fn emit_branch_addr(&self, _: AddressDiff<u32>, _: i32, _: &mut T) -> Result<bool, fmt::Error> {
-        Ok(false)
-    }
-    fn emit_operand(&self, _: &Instruction, _: u8, _: &mut T) -> Result<bool, fmt::Error> {
-        Ok(false)
-    }
-}
-
-struct NoRules;
-impl<T> DisplayRules<T> for NoRules {}
+/// What version 2.0.0 has not: the shim's rules.
+#[path = "../oracle/shim/rules.rs"]
+mod rules;
+pub(crate) use rules::DisplayRules;
+use rules::NoRules;
 
 /// 000's line, with the published crate's own names, labels and segment rules.
 pub fn line<W: fmt::Write>(instruction: &Instruction, out: &mut W) -> fmt::Result {

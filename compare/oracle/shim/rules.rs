@@ -1,4 +1,5 @@
-//! Rules by which a caller may replace items of a line. Document 01 fixes the default.
+//! Rules by which a caller may replace items of a line. Document 01 fixes the default. `compare/decoder`
+//! puts this file beside the published crate too, whose addresses have a type of their own.
 
 use super::{Instruction, RegSpec};
 use core::fmt;
@@ -20,7 +21,7 @@ pub(crate) trait DisplayRules<T> {
     fn emit_far_address(&self, _: u16, _: u32, _: &mut T) -> Result<bool, fmt::Error> {
         Ok(false)
     }
-    fn emit_branch_addr(&self, _: u32, _: i32, _: &mut T) -> Result<bool, fmt::Error> {
+    fn emit_branch_addr<Address>(&self, _: Address, _: i32, _: &mut T) -> Result<bool, fmt::Error> {
         Ok(false)
     }
     fn emit_operand(&self, _: &Instruction, _: u8, _: &mut T) -> Result<bool, fmt::Error> {

@@ -25,7 +25,7 @@ abbrev pub armAt : ℕ → Arm
 armAt n = getD inOrder n arm.General
 
 -- an arm's number leads back to it
-at-number : (a : Arm) → armAt (number a) ≡ a
+pub at-number : (a : Arm) → armAt (number a) ≡ a
 at-number arm.General = refl
 at-number arm.Qword = refl
 at-number arm.Mmword = refl

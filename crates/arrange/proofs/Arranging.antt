@@ -2,6 +2,7 @@
 -- Assumes nothing.
 use mathlib.Core.Path.{_≡_, refl, sym, ap, _∙_}
 use mathlib.Core.Bool.{Bool, true, false, cond, not, _&&_, true≢false}
+use Prim.Native.Nat.{ℕ}
 use Rattle.operands.specs.declared.Instruction.{Instruction}
 use Rattle.arms.specs.Shows.{itemsOf}
 use Rattle.arms.specs.declared.Arm.{Arm}
@@ -62,6 +63,6 @@ exclude true true n = refl
 exclude true false n = refl
 exclude false r n = refl
 
-pub one-rep : (arm : Arm) (i : Instruction) → (headOf arm i .rep && headOf arm i .repne) ≡ false
+pub one-rep : (arm : Arm) (opcode flags : ℕ) → (headOf arm opcode flags .rep && headOf arm opcode flags .repne) ≡ false
 unfolding headOf
-one-rep arm i = exclude (canRep arm) (bit 3 (i .flags)) (bit 4 (i .flags))
+one-rep arm opcode flags = exclude (canRep arm) (bit 3 flags) (bit 4 flags)

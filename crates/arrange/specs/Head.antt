@@ -4,7 +4,6 @@ use mathlib.Core.Bool.{Bool, cond, not, _&&_, _||_}
 use mathlib.Core.List.{[], _∷_}
 use Prim.Native.Nat.{ℕ, _/_, _%_, _^_}
 use lib.Dec.{eqb}
-use Rattle.operands.specs.declared.Instruction.{Instruction}
 use Rattle.arms.specs.declared.Arm.{Arm}
 use Rattle.arms.specs.declared.Arm.the-variants.{Jmpf, Callf, Movs, Cmps, Feni as FeniArm, Fdisi as FdisiArm, Fsetpm as FsetpmArm, Scas, Lods, Incssp, Wrss, Pushf}
 use Rattle.arrange.specs.Among.{same, among}
@@ -34,15 +33,15 @@ nameOf arm opcode =
 abbrev pub suffixed : Arm → ℕ → Bool
 suffixed arm flags = among arm (Incssp ∷ Wrss ∷ []) || same arm Pushf && not (bit 5 flags)
 
--- the prefix words in the printed order, "both rep flags print rep"; then the name and its suffix
-unfoldable pub headOf : Arm → Instruction → Head
-headOf arm i =
+-- From a record's opcode and flags: the prefix words in the printed order, "both rep flags print rep"; then the name and its suffix
+unfoldable pub headOf : Arm → ℕ → ℕ → Head
+headOf arm opcode flags =
     record {
-      xacquire = bit 0 (i .flags);
-      xrelease = bit 1 (i .flags);
-      lock = bit 2 (i .flags);
-      rep = canRep arm && bit 3 (i .flags);
-      repne = canRep arm && (not (bit 3 (i .flags)) && bit 4 (i .flags));
-      name = nameOf arm (i .opcode);
-      suffix = suffixed arm (i .flags);
+      xacquire = bit 0 flags;
+      xrelease = bit 1 flags;
+      lock = bit 2 flags;
+      rep = canRep arm && bit 3 flags;
+      repne = canRep arm && (not (bit 3 flags) && bit 4 flags);
+      name = nameOf arm opcode;
+      suffix = suffixed arm flags;
     }

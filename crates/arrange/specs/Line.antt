@@ -14,7 +14,7 @@ use Rattle.arrange.specs.declared.Arranged.the-variants.{Shape, Size, Sh
 
 -- what the line of an arm shows: head and operands
 abbrev pub lineOf : Bool → Arm → Instruction → Line
-lineOf straight arm i = record { head = headOf arm i; items = itemsOf straight arm i }
+lineOf straight arm i = record { head = headOf arm (i .opcode) (i .flags); items = itemsOf straight arm i }
 
 -- a record by its arm
 unfoldable pub arrangedBy : Bool → Arm → Instruction → Arranged

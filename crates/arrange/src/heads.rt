@@ -7,7 +7,6 @@ ghost use Rattle.arrange.specs.Head.{canRep, nameOf, suffixed as isSuffi
 use crate::Head;
 use crate::Name;
 use arms::Arm;
-use operands::Instruction;
 
 // One bit of the flags, by its weight.
 fn flag(flags: u8, weight: u8) -> bool
@@ -49,10 +48,9 @@ fn suffixed(arm: Arm, flags: u8) -> bool
     }
 }
 
-pub fn head_of(arm: Arm, i: Instruction) -> Head
-    ensures { λ r. ⌜ r ≡ headOf arm i ⌝ }
+pub fn head_of(arm: Arm, opcode: u16, flags: u8) -> Head
+    ensures { λ r. ⌜ r ≡ headOf arm opcode flags ⌝ }
 {
-    let flags = i.flags;
     let can = can_rep(arm);
     let rep = flag(flags, 8);
     Head {
@@ -61,7 +59,7 @@ pub fn head_of(arm: Arm, i: Instruction) -> Head
         lock: flag(flags, 4),
         rep: can & rep,
         repne: can & (!rep & flag(flags, 16)),
-        name: name_of(arm, i.opcode),
+        name: name_of(arm, opcode),
         suffix: suffixed(arm, flags),
     }
 }

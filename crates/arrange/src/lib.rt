@@ -58,6 +58,6 @@ pub fn arrange(table: &[u8; 154], straight: bool, i: Instruction) -> Arranged
     if sizes::lacks_label(items) {
         return Arranged::Size;
     }
-    let head = heads::head_of(arm, i);
+    let head = heads::head_of(arm, i.opcode, i.flags);
     Arranged::Shown(Line { head, items })
 }

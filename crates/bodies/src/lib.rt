@@ -4,8 +4,8 @@ ghost use Rattle.bodies.specs.Decoding.{decoded};
 use operands::Instruction;
 
 pub mod numbers;
-mod parts;
-mod rules;
+pub mod parts;
+pub mod rules;
 
 // What a body is: refused by its length (answer 2), refused by a field (answer 3), or a record.
 pub enum Decoded {

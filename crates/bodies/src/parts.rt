@@ -78,7 +78,7 @@ fn operand(imm: u32, disp: u32, kind: u8, segment: u8, first: u8, second: u8, sc
 }
 
 // Operand k of a body whose imm and disp are read already.
-fn operand_at(body: &[u8], k: usize, imm: u32, disp: u32) -> Operand
+pub fn operand_at(body: &[u8], k: usize, imm: u32, disp: u32) -> Operand
     requires { ⌜ Whole (now body) ⌝ }
     requires { ⌜ imm ≡ immOf (now body) ⌝ }
     requires { ⌜ disp ≡ dispOf (now body) ⌝ }

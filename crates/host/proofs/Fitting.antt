@@ -9,6 +9,7 @@ use lib.Dec.{ltb, eqb, lit<, lit≤}
 use lib.ListN.{length}
 use borrow.Author.Tests.{ltb-false}
 use Rattle.text.specs.Choice.{pick}
+use Rattle.text.proofs.Choosing.{pick-by, pick-most}
 use Rattle.lines.proofs.Short.{line-short}
 use Rattle.records.specs.Answers.{lowest, lengthWith, roomRefused, outcomeOf, numberOf, lengthOf, Gives}
 use Rattle.records.specs.Records.{modeRefused, lineAt, recordText, recordOutcome}
@@ -16,10 +17,6 @@ use Rattle.records.specs.declared.Answer.{Answer}
 use Rattle.listings.specs.Lines.{cutLine, versionLine, linesOf, listingText}
 use Rattle.listings.specs.Listings.{sizeLimit, listingRefusals, listingOutcome}
 use Rattle.listings.proofs.Following.{lines-short}
-
-pick-most : (b : Bool) (n : ℕ) → pick b n 0 ≤ n
-pick-most true n = omega arith
-pick-most false n = omega arith
 
 length-most : (a : ℕ) (t : List ℕ) → lengthWith a t ≤ length t
 length-most a t = pick-most (eqb a 0 || eqb a 6) (length t)
@@ -32,11 +29,8 @@ record-fits mode body buf =
 text-short : (mode : ℕ) (xs : List ℕ) → length (listingText mode xs) ≤ 129 * length xs + 10
 unfolding listingText
 text-short mode [] = lit≤ tt
-text-short mode (v ∷ xs) = go (eqb v 1)
-  where
-    go : (b : Bool) → length (pick b (linesOf mode xs) versionLine) ≤ 129 * length (v ∷ xs) + 10
-    go true = omega (arith, lines-short mode xs)
-    go false = omega arith
+text-short mode (v ∷ xs) =
+    pick-by (λ (t : List ℕ). length t ≤ 129 * length (v ∷ xs) + 10) (eqb v 1) (λ e. omega (arith, lines-short mode xs)) (λ e. omega arith)
 
 -- a listing over the limit has no length at all
 limited : (m l r : Bool) (t : List ℕ) → (l ≡ false → length t < 2 ^ 32) → lengthWith (lowest 1 (m ∷ l ∷ false ∷ false ∷ false ∷ r ∷ [])) t < 2 ^ 32

@@ -10,12 +10,12 @@ use lib.IntN.{ℤ}
 use lib.ListN.{length, length-append}
 use Rattle.text.specs.Choice.{pick, when}
 use Rattle.text.specs.Words.{bytes}
-use Rattle.text.proofs.Choosing.{length-when}
+use Rattle.text.proofs.Choosing.{length-when, pick-most}
 use Rattle.text.proofs.Tables.{no-longer}
 use Rattle.numerals.specs.Digits.{digits}
 use Rattle.numerals.specs.Numerals.{numeral, displacement, absolute}
 use Rattle.numerals.proofs.Places.{length-digits}
-use Rattle.numerals.proofs.Short.{pick-most, numeral-short, displacement-short, absolute-short}
+use Rattle.numerals.proofs.Short.{numeral-short, displacement-short, absolute-short}
 use Rattle.names.specs.Registers.{registers, registerName, segments, segmentName}
 use Rattle.operands.specs.declared.Address.{Address}
 use Rattle.operands.specs.declared.Item.{Item}

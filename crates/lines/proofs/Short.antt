@@ -7,7 +7,7 @@ use lib.Dec.{lit≤}
 use lib.ListN.{length}
 use Rattle.text.specs.Words.{bytes}
 use Rattle.text.proofs.Tables.{no-longer}
-use Rattle.numerals.proofs.Short.{pick-most}
+use Rattle.text.proofs.Choosing.{pick-most}
 use Rattle.names.specs.Mnemonics.{mnemonics, mnemonic}
 use Rattle.operands.specs.declared.Item.{Item}
 use Rattle.items.specs.Items.{itemText}

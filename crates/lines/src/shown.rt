@@ -33,7 +33,7 @@ fn shows_something(shown: Shown) -> bool
     }
 }
 
-fn put_parted(
+pub fn put_parted(
     buf: &mut [u8],
     at: usize,
     letters: &Letters,

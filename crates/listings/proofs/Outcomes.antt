@@ -9,22 +9,12 @@ use native.Mathlib.Omega.{arith}
 use lib.Dec.{ltb, eqb}
 use lib.ListN.{length, getD, drop}
 use borrow.Author.Tests.{lt-ltb, le-ltb, eq-eqb, ne-eqb}
-use Rattle.text.specs.Write.{Put}
-use Rattle.records.specs.Answers.{Outcome, outcomeOf, roomRefused, Gives}
+use Rattle.records.specs.Answers.{Outcome, outcomeOf, roomRefused, textOutcome, Gives}
 use Rattle.records.specs.Records.{modeRefused}
-use Rattle.records.specs.declared.Answer.the-variants.{Printed, Mode, Length, Room}
-use Rattle.records.proofs.Outcomes.{gives-mode, gives-length, gives-room, gives-printed}
+use Rattle.records.specs.declared.Answer.the-variants.{Mode, Length}
+use Rattle.records.proofs.Outcomes.{gives-mode, gives-length}
 use Rattle.listings.specs.Lines.{cutLine, versionLine, linesOf, listingText}
-use Rattle.listings.specs.Listings.{sizeLimit, textOutcome, listingRefusals, listingOutcome}
-
--- a text by whether it fits
-pub text-printed : (t : List ℕ) {buf : List ℕ} {n : ℕ} {after : List ℕ} → length t ≤ length buf → Put buf 0 t n after → Gives (textOutcome t buf) (Printed n) after
-unfolding textOutcome
-text-printed t {buf} fits put = gives-printed t buf put (rw (le-ltb (length buf) (length t) fits))
-
-pub text-refused : (t : List ℕ) {buf : List ℕ} {n : ℕ} → n ≡ length t → length buf < n → Gives (textOutcome t buf) (Room n) buf
-unfolding textOutcome
-text-refused t {buf} needed h = gives-room t buf needed (rw (lt-ltb (length buf) (length t) (rw needed at h)))
+use Rattle.listings.specs.Listings.{sizeLimit, listingRefusals, listingOutcome}
 
 -- a listing by its mode and its size
 module _ (mode : ℕ) (xs buf : List ℕ) where

@@ -8,7 +8,7 @@ use native.Mathlib.Omega.{arith}
 use lib.ListN.{length, getD, take, drop}
 use lib.Dec.{eqb, ltb, lit≤}
 use borrow.Author.Tests.{lt-ltb, le-ltb, ltb-false, eq-eqb, ne-eqb}
-use Rattle.text.specs.Choice.{pick}
+use Rattle.text.proofs.Choosing.{pick-by}
 use Rattle.text.specs.Write.{Put}
 use Rattle.text.proofs.Putting.{put-as, put-none}
 use Rattle.bodies.specs.Body.{word}
@@ -78,10 +78,6 @@ pub record Bounded (t : Taken) (xs : List ℕ) : Type 0 where
   pub uses : t .used ≤ length xs
   pub short : length (t .says) ≤ 257
 
-picked : (b : Bool) {t u : Taken} {xs : List ℕ} → (b ≡ true → Bounded t xs) → (b ≡ false → Bounded u xs) → Bounded (pick b t u) xs
-picked true f g = f refl
-picked false f g = g refl
-
 silent : (stage : Stage) (used : ℕ) (xs : List ℕ) → used ≤ length xs → Bounded (taken stage used []) xs
 silent stage used xs h = record { uses = h; short = lit≤ tt }
 
@@ -89,17 +85,17 @@ pub bounded : (mode : ℕ) (stage : Stage) (xs : List ℕ) → Bounded (stepped 
 unfolding stepped
 bounded mode Version [] = silent Version 0 [] (lit≤ tt)
 bounded mode Version (v ∷ xs) =
-    picked (eqb v 1) (λ e. silent Frames 1 (v ∷ xs) (omega arith)) (λ e. record { uses = omega arith; short = lit≤ tt })
+    pick-by (λ (t : Taken). Bounded t (v ∷ xs)) (eqb v 1) (λ e. silent Frames 1 (v ∷ xs) (omega arith)) (λ e. record { uses = omega arith; short = lit≤ tt })
 bounded mode Frames xs =
-    picked (ltb (length xs) 2) (λ e. silent Frames 0 xs (omega arith))
+    pick-by (λ (t : Taken). Bounded t xs) (ltb (length xs) 2) (λ e. silent Frames 0 xs (omega arith))
     (λ (two : ltb (length xs) 2 ≡ false).
-    picked (ltb 1289 (bodyLength xs)) (λ e. silent (Skip (bodyLength xs)) 2 xs (ltb-false (length xs) 2 two))
+    pick-by (λ (t : Taken). Bounded t xs) (ltb 1289 (bodyLength xs)) (λ e. silent (Skip (bodyLength xs)) 2 xs (ltb-false (length xs) 2 two))
     (λ e.
-    picked (ltb (length xs) (2 + bodyLength xs)) (λ e. silent Frames 0 xs (omega arith))
+    pick-by (λ (t : Taken). Bounded t xs) (ltb (length xs) (2 + bodyLength xs)) (λ e. silent Frames 0 xs (omega arith))
     (λ (all : ltb (length xs) (2 + bodyLength xs) ≡ false).
     record { uses = ltb-false (length xs) (2 + bodyLength xs) all; short = record-line-short mode (bodyOf xs) })))
 bounded mode (Skip left) xs =
-    picked (ltb (length xs) left) (λ e. silent (Skip (left - length xs)) (length xs) xs (omega arith))
+    pick-by (λ (t : Taken). Bounded t xs) (ltb (length xs) left) (λ e. silent (Skip (left - length xs)) (length xs) xs (omega arith))
     (λ (all : ltb (length xs) left ≡ false). record { uses = ltb-false (length xs) left all; short = lit≤ tt })
 bounded mode Done xs = silent Done (length xs) xs (omega arith)
 

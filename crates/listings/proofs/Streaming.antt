@@ -9,7 +9,8 @@ use lib.Dec.{ltb, leb, eqb, lit≤}
 use lib.ListN.{length, take, drop, length-append, length-drop, List·getD-append, drop-of-length-le}
 use lib.Seq.{drop-length, length-take-le, take-append-le, drop-append-le, drop-append-add, getD-take, getD-drop, drop-drop}
 use borrow.Author.Tests.{lt-ltb, le-ltb, le-leb, lt-leb, ne-eqb, ltb-true, ltb-false}
-use Rattle.text.specs.Choice.{pick, when}
+use Rattle.text.specs.Choice.{when}
+use Rattle.text.proofs.Choosing.{pick-by}
 use Rattle.text.specs.Words.{join}
 use Rattle.bodies.specs.Body.{byte, countOf}
 use Rattle.bodies.specs.Refusals.{lengthRefused}
@@ -25,11 +26,6 @@ use Rattle.listings.specs.declared.Stage.the-variants.{Version, Frames, 
 use Rattle.listings.proofs.Answered.{line-by}
 use Rattle.listings.proofs.Following.{lines-none, lines-some}
 use Rattle.listings.proofs.Placing.{front-whole, front-cut, size-whole, size-cut}
-
--- what holds of both choices holds of the one that is picked
-pick-by : {A : Type 0} (P : A → Type 0) (b : Bool) {x y : A} → (b ≡ true → P x) → (b ≡ false → P y) → P (pick b x y)
-pick-by P true f g = f refl
-pick-by P false f g = g refl
 
 -- a stage that a step can come to: where bytes are skipped, some are left
 abbrev pub Alive : Stage → Type 0

@@ -18,10 +18,6 @@ unfoldable pub listingRefusals : ℕ → List ℕ → List ℕ → List Bool
 listingRefusals mode listing buf =
     modeRefused mode ∷ ltb sizeLimit (length listing) ∷ false ∷ false ∷ false ∷ roomRefused (listingText mode listing) buf ∷ []
 
--- a text that no other refusal stops: printed where it has room, else answer 6
-unfoldable pub textOutcome : List ℕ → List ℕ → Outcome
-textOutcome text buf = outcomeOf (lowest 6 (roomRefused text buf ∷ [])) text buf
-
 unfoldable pub listingOutcome : ℕ → List ℕ → List ℕ → Outcome
 listingOutcome mode listing buf =
     outcomeOf (lowest 1 (listingRefusals mode listing buf)) (listingText mode listing) buf

@@ -14,6 +14,7 @@ use arrange::Line;
 use names::mnemonics;
 use names::registers;
 use records::Judged;
+use records::direct;
 
 fn put_refused(text: &mut [u8], at: usize, n: u8) -> usize
     requires { ⌜ n ≤ 9 ⌝ }
@@ -51,7 +52,7 @@ fn put_shown(
     text::put_byte(text, next, b'\n')
 }
 
-pub fn put_record_line(
+fn put_judged(
     name_letters: &mnemonics::Letters,
     name_starts: &mnemonics::Starts,
     register_letters: &registers::Letters,
@@ -87,6 +88,51 @@ pub fn put_record_line(
 }
 
 // Its length: 12 bytes for a refusal.
+pub fn put_record_line(
+    name_letters: &mnemonics::Letters,
+    name_starts: &mnemonics::Starts,
+    register_letters: &registers::Letters,
+    register_starts: &registers::Starts,
+    arms: &[u8; 154],
+    body: &[u8],
+    mode: u32,
+    text: &mut [u8],
+    at: usize,
+) -> usize
+    requires { ⌜ Table names (now «name_letters») (now «name_starts») ⌝ }
+    requires { ⌜ Table regs (now «register_letters») (now «register_starts») ⌝ }
+    requires { ⌜ now arms ≡ map number armTable ⌝ }
+    requires { ⌜ Room (now text) at (recordLine mode (now body)) ⌝ }
+    ensures { λ r. ⌜ Put (now (text .entry)) at (recordLine mode (now (body .entry))) r (now (text .exit)) ⌝ }
+{
+    let way = direct::way_of(arms, body, mode);
+    if direct::is_by_line(way) {
+        return put_judged(
+            name_letters,
+            name_starts,
+            register_letters,
+            register_starts,
+            arms,
+            body,
+            mode,
+            text,
+            at,
+        );
+    }
+    let next = direct::put_direct(
+        name_letters,
+        name_starts,
+        register_letters,
+        register_starts,
+        way,
+        body,
+        mode,
+        text,
+        at,
+    );
+    text::put_byte(text, next, b'\n')
+}
+
 pub fn record_line_length(
     name_letters: &mnemonics::Letters,
     name_starts: &mnemonics::Starts,

@@ -8,23 +8,16 @@ use lib.Dec.{ltb}
 use lib.IntN.{ℤ, natAbs}
 use lib.ListN.{length}
 use Rattle.text.specs.Choice.{pick}
+use Rattle.text.proofs.Choosing.{pick-by, pick-most}
 use Rattle.numerals.specs.Digits.{placesFrom, places}
 use Rattle.numerals.specs.Numerals.{needsLeading0, hexAmbiguous, numeral, displacement, absolute}
 use Rattle.numerals.proofs.Texts.{length-numeral, length-displacement, length-absolute}
-
-pub pick-most : (b : Bool) (n : ℕ) → pick b n 0 ≤ n
-pick-most true n = omega arith
-pick-most false n = omega arith
-
-one-of : (b : Bool) (m n k : ℕ) → m ≤ k → n ≤ k → pick b m n ≤ k
-one-of true m n k h l = h
-one-of false m n k h l = l
 
 places-from-most : (n k v : ℕ) → placesFrom n k v ≤ n + k
 unfolding placesFrom
 places-from-most n zero v = omega arith
 places-from-most n (suc k) v =
-    one-of (ltb v (16 ^ n)) n (placesFrom (suc n) k v) (n + suc k) (omega arith) (omega (arith, places-from-most (suc n) k v))
+    pick-by (λ (m : ℕ). m ≤ n + suc k) (ltb v (16 ^ n)) (λ e. omega arith) (λ e. omega (arith, places-from-most (suc n) k v))
 
 pub places-most : (v : ℕ) → places v ≤ 8
 unfolding places

@@ -16,8 +16,8 @@ use Rattle.arrange.specs.declared.Line.{Line}
 use Rattle.arrange.specs.declared.Arranged.the-variants.{Shape as ShapeRefused, Size as SizeRefused, Shown as LineShown}
 use Rattle.operands.specs.declared.Instruction.{Instruction}
 use Rattle.lines.specs.Text.{lineText}
-use Rattle.records.specs.Answers.{lowest, roomRefused, outcomeOf}
-use Rattle.records.specs.Records.{modeRefused, straight, armAt, refusals, lineAt, recordText, lineOutcome, recordOutcome}
+use Rattle.records.specs.Answers.{lowest, roomRefused, outcomeOf, textOutcome}
+use Rattle.records.specs.Records.{modeRefused, straight, armAt, refusals, lineAt, recordText, recordOutcome}
 use Rattle.records.specs.Judged.{judgedAs, judged}
 use Rattle.records.specs.declared.Judged.{Judged}
 use Rattle.records.specs.declared.Judged.the-variants.{Mode, Length, Field, Shape, Size, Shown}
@@ -64,8 +64,8 @@ line-at mode body line e =
     (sizeRefused (armAt body) (instructionOf body)) (lineAt mode body) line e
 
 -- where a line is shown, the record's outcome is the line's
-pub shown-outcome : (mode : ℕ) (body buf : List ℕ) (line : Line) → judged mode body ≡ Shown line → recordOutcome mode body buf ≡ lineOutcome line buf
-unfolding recordOutcome lineOutcome recordText
+pub shown-outcome : (mode : ℕ) (body buf : List ℕ) (line : Line) → judged mode body ≡ Shown line → recordOutcome mode body buf ≡ textOutcome (lineText line) buf
+unfolding recordOutcome textOutcome recordText
 shown-outcome mode body buf line e =
     rw (judged-lowest mode body (roomRefused (lineText (lineAt mode body)) buf ∷ []), e, line-at mode body line e)
 

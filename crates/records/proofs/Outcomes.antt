@@ -7,10 +7,7 @@ use native.Mathlib.Nat.{zero-add}
 use lib.ListN.{length}
 use borrow.Author.Tests.{lt-ltb, le-ltb}
 use Rattle.text.specs.Write.{Put}
-use Rattle.lines.specs.Text.{lineText}
-use Rattle.arrange.specs.declared.Line.{Line}
-use Rattle.records.specs.Answers.{Outcome, outcomeOf, Gives}
-use Rattle.records.specs.Records.{lineOutcome}
+use Rattle.records.specs.Answers.{Outcome, outcomeOf, textOutcome, Gives}
 use Rattle.records.specs.declared.Answer.{Answer}
 use Rattle.records.specs.declared.Answer.the-variants.{Printed, Mode, Length, Field, Shape, Size, Room}
 
@@ -44,14 +41,14 @@ module _ {a : ℕ} (text buf : List ℕ) where
   unfolding outcomeOf
   gives-printed put e = record { answer = sym e; length = rw (e, put .next, zero-add (length text)); after = rw (e, put .text) }
 
--- a line by whether it fits
-pub line-printed : (l : Line) {buf : List ℕ} {n : ℕ} {after : List ℕ} → length (lineText l) ≤ length buf → Put buf 0 (lineText l) n after → Gives (lineOutcome l buf) (Printed n) after
-unfolding lineOutcome
-line-printed l {buf} fits put = gives-printed (lineText l) buf put (rw (le-ltb (length buf) (length (lineText l)) fits))
+-- a text by whether it fits
+pub text-printed : (t : List ℕ) {buf : List ℕ} {n : ℕ} {after : List ℕ} → length t ≤ length buf → Put buf 0 t n after → Gives (textOutcome t buf) (Printed n) after
+unfolding textOutcome
+text-printed t {buf} fits put = gives-printed t buf put (rw (le-ltb (length buf) (length t) fits))
 
-pub line-refused : (l : Line) {buf : List ℕ} {n : ℕ} → n ≡ length (lineText l) → length buf < n → Gives (lineOutcome l buf) (Room n) buf
-unfolding lineOutcome
-line-refused l {buf} needed h = gives-room (lineText l) buf needed (rw (lt-ltb (length buf) (length (lineText l)) (rw needed at h)))
+pub text-refused : (t : List ℕ) {buf : List ℕ} {n : ℕ} → n ≡ length t → length buf < n → Gives (textOutcome t buf) (Room n) buf
+unfolding textOutcome
+text-refused t {buf} needed h = gives-room t buf needed (rw (lt-ltb (length buf) (length t) (rw needed at h)))
 
 -- an outcome under another name
 pub gives-as : {o p : Outcome} {a : Answer} {b : List ℕ} → o ≡ p → Gives o a b → Gives p a b

@@ -39,6 +39,10 @@ unfoldable pub outcomeOf : ℕ → List ℕ → List ℕ → Outcome
 outcomeOf answer text buf =
     record { answer = answer; length = lengthWith answer text; buffer = bufferAfter answer text buf }
 
+-- a text that no refusal of 1 to 5 stops: printed where it has room, else answer 6
+unfoldable pub textOutcome : List ℕ → List ℕ → Outcome
+textOutcome text buf = outcomeOf (lowest 6 (roomRefused text buf ∷ [])) text buf
+
 -- document 01's number and length for each case of the answer
 abbrev pub numberOf : Answer → ℕ
 numberOf (Printed n) = 0

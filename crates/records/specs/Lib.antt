@@ -3,4 +3,5 @@ pub mod Answers
 pub mod Table
 pub mod Records
 pub mod Judged
+pub mod Direct
 pub mod Lines

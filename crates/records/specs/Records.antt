@@ -43,11 +43,6 @@ lineAt mode body = lineOf (straight mode) (armAt body) (instructionOf body)
 unfoldable pub recordText : ℕ → List ℕ → List ℕ
 recordText mode body = lineText (lineAt mode body)
 
--- a line that no refusal of 1 to 5 stops: printed where it has room, else answer 6
-unfoldable pub lineOutcome : Line → List ℕ → Outcome
-lineOutcome line buf =
-    outcomeOf (lowest 6 (roomRefused (lineText line) buf ∷ [])) (lineText line) buf
-
 -- the outcome of the record entry point
 unfoldable pub recordOutcome : ℕ → List ℕ → List ℕ → Outcome
 recordOutcome mode body buf =

@@ -1,4 +1,5 @@
 // One record: every body, every mode number and every buffer gets an answer.
+pub mod direct;
 pub mod judge;
 pub mod print;
 
@@ -13,6 +14,13 @@ pub enum Answer {
     Shape,
     Size,
     Room(usize),
+}
+
+// How a record is printed: by its Line, which every refusal asks for too, or straight from its bytes.
+pub enum Way {
+    ByLine,
+    General,
+    Branch,
 }
 
 // What a record comes to before there is a buffer: the first refusal of 1 to 5, or the line that it shows.

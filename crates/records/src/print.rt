@@ -8,10 +8,11 @@ ghost use Rattle.names.specs.Mnemonics.{mnemonics as names};
 ghost use Rattle.names.specs.Registers.{registers as regs};
 ghost use Rattle.arms.specs.Arms.{number, arms as armTable};
 ghost use Rattle.lines.specs.Text.{lineText};
-ghost use Rattle.records.specs.Answers.{Gives};
-ghost use Rattle.records.specs.Records.{lineOutcome, recordOutcome};
+ghost use Rattle.records.specs.Answers.{textOutcome, Gives};
+ghost use Rattle.records.specs.Records.{recordOutcome};
 use crate::Answer;
 use crate::Judged;
+use crate::direct;
 use crate::judge;
 use arrange::Line;
 use names::mnemonics;
@@ -29,7 +30,7 @@ fn print_fitting(
     requires { ⌜ Table names (now «name_letters») (now «name_starts») ⌝ }
     requires { ⌜ Table regs (now «register_letters») (now «register_starts») ⌝ }
     requires { ⌜ length (lineText line) ≤ length (now text) ⌝ }
-    ensures { λ r. ⌜ Gives (lineOutcome line (now (text .entry))) r (now (text .exit)) ⌝ }
+    ensures { λ r. ⌜ Gives (textOutcome (lineText line) (now (text .entry))) r (now (text .exit)) ⌝ }
 {
     let written = lines::line::put_line(
         text,
@@ -54,7 +55,7 @@ pub fn print_line(
 ) -> Answer
     requires { ⌜ Table names (now «name_letters») (now «name_starts») ⌝ }
     requires { ⌜ Table regs (now «register_letters») (now «register_starts») ⌝ }
-    ensures { λ r. ⌜ Gives (lineOutcome line (now (text .entry))) r (now (text .exit)) ⌝ }
+    ensures { λ r. ⌜ Gives (textOutcome (lineText line) (now (text .entry))) r (now (text .exit)) ⌝ }
 {
     if 256 <= text.len() {
         return print_fitting(
@@ -86,7 +87,7 @@ pub fn print_line(
     )
 }
 
-pub fn print_record(
+fn print_judged(
     name_letters: &mnemonics::Letters,
     name_starts: &mnemonics::Starts,
     register_letters: &registers::Letters,
@@ -116,4 +117,49 @@ pub fn print_record(
             text,
         ),
     }
+}
+
+pub fn print_record(
+    name_letters: &mnemonics::Letters,
+    name_starts: &mnemonics::Starts,
+    register_letters: &registers::Letters,
+    register_starts: &registers::Starts,
+    arms: &[u8; 154],
+    body: &[u8],
+    mode: u32,
+    text: &mut [u8],
+) -> Answer
+    requires { ⌜ Table names (now «name_letters») (now «name_starts») ⌝ }
+    requires { ⌜ Table regs (now «register_letters») (now «register_starts») ⌝ }
+    requires { ⌜ now arms ≡ map number armTable ⌝ }
+    ensures { λ r. ⌜ Gives (recordOutcome mode (now (body .entry)) (now (text .entry))) r (now (text .exit)) ⌝ }
+{
+    // no line is longer
+    if 256 <= text.len() {
+        let way = direct::way_of(arms, body, mode);
+        if !direct::is_by_line(way) {
+            let written = direct::put_direct(
+                name_letters,
+                name_starts,
+                register_letters,
+                register_starts,
+                way,
+                body,
+                mode,
+                text,
+                0,
+            );
+            return Answer::Printed(written);
+        }
+    }
+    print_judged(
+        name_letters,
+        name_starts,
+        register_letters,
+        register_starts,
+        arms,
+        body,
+        mode,
+        text,
+    )
 }

@@ -1,11 +1,21 @@
--- Laws of a text that stands only where it is called for.
+-- Laws of one of two, and of a text that stands only where it is called for.
 -- Assumes nothing.
 use mathlib.Core.Path.{_≡_, refl}
 use mathlib.Core.Bool.{Bool, true, false}
 use mathlib.Core.List.{List, []}
-use Prim.Native.Nat.{ℕ}
+use Prim.Native.Nat.{ℕ, _≤_}
+use native.Mathlib.Omega.{arith}
 use lib.ListN.{length}
 use Rattle.text.specs.Choice.{pick, when}
+
+-- what holds of both holds of the one that is picked
+pub pick-by : {A : Type 0} (P : A → Type 0) (b : Bool) {x y : A} → (b ≡ true → P x) → (b ≡ false → P y) → P (pick b x y)
+pick-by P true f g = f refl
+pick-by P false f g = g refl
+
+pub pick-most : (b : Bool) (n : ℕ) → pick b n 0 ≤ n
+pick-most true n = omega arith
+pick-most false n = omega arith
 
 pub when-wanted : (t : List ℕ) {wanted : Bool} → wanted ≡ true → when wanted t ≡ t
 when-wanted t e = rw e

@@ -7,7 +7,7 @@ use denote.Ref.{now}
 use Rattle.listings.proofs.print.print_fitting.Statement.{statement}
 use Rattle.listings.proofs.print.print_fitting.Tie as tie
 use Rattle.listings.specs.Lines.{linesOf}
-use Rattle.listings.proofs.Outcomes.{text-printed}
+use Rattle.records.proofs.Outcomes.{text-printed}
 
 put-lines-requires : tie.Need-put-lines-requires
 put-lines-requires c κs = ((c .before .before .before .pre .0), ((c .before .before .before .pre .1 .0), ((c .before .before .before .pre .1 .1 .0), ((c .before .before .before .pre .1 .1 .1 .0), record { fits = omega arith }))))

@@ -6,7 +6,7 @@ use borrow.Author.Needs.{needs}
 use denote.Ref.{now}
 use Rattle.listings.proofs.print.print_fixed.Statement.{statement}
 use Rattle.listings.proofs.print.print_fixed.Tie as tie
-use Rattle.listings.proofs.Outcomes.{text-printed, text-refused}
+use Rattle.records.proofs.Outcomes.{text-printed, text-refused}
 
 returns : tie.Need-returns
 returns c = text-refused (now (c .before .before .before .args .fixed)) refl (c .if1 .taken)

@@ -7,7 +7,7 @@ use denote.Ref.{now}
 use Rattle.listings.proofs.print.print_lines.Statement.{statement}
 use Rattle.listings.proofs.print.print_lines.Tie as tie
 use Rattle.listings.specs.Lines.{linesOf}
-use Rattle.listings.proofs.Outcomes.{text-refused}
+use Rattle.records.proofs.Outcomes.{text-refused}
 
 most-bytes-requires : tie.Need-most-bytes-requires
 most-bytes-requires c κs = search needs

@@ -5,7 +5,8 @@ use borrow.Author.Needs.{needs}
 use Rattle.records.proofs.print.print_line.Statement.{statement}
 use Rattle.records.proofs.print.print_line.Tie as tie
 use Rattle.lines.proofs.Short.{line-short}
-use Rattle.records.proofs.Outcomes.{line-refused}
+use Rattle.lines.specs.Text.{lineText}
+use Rattle.records.proofs.Outcomes.{text-refused}
 
 print-fitting-requires : tie.Need-print-fitting-requires
 print-fitting-requires c κs = ((c .before .before .before .pre .0), ((c .before .before .before .pre .1), omega (arith, line-short (c .before .before .before .args .line))))
@@ -20,7 +21,7 @@ line-length-requires : tie.Need-line-length-requires
 line-length-requires c κs = search needs
 
 returns-2 : tie.Need-returns-2
-returns-2 c = line-refused (c .before .before .before .before .args .line) (c .before .line-length .ensures .0) (c .if2 .taken)
+returns-2 c = text-refused (lineText (c .before .before .before .before .args .line)) (c .before .line-length .ensures .0) (c .if2 .taken)
 
 print-fitting-requires-2 : tie.Need-print-fitting-requires-2
 print-fitting-requires-2 c κs = ((c .before .before .before .before .before .pre .0), ((c .before .before .before .before .before .pre .1), omega arith))

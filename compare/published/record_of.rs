@@ -1,0 +1,18 @@
+//! From what the published crate says of an instruction to document 01's record.
+
+use oracle::{Record, Slot};
+use yaxpeax_x86::protected_mode::records::Fields;
+
+pub fn record_of(opcode: u16, parts: &Fields) -> Record {
+    let slot = |[kind, segment, first, second, scale]: [u8; 5]| Slot { kind, segment, first, second, scale };
+    Record {
+        opcode,
+        flags: parts.flags,
+        length: parts.length,
+        mem_size: parts.mem_size,
+        imm: parts.imm,
+        disp: parts.disp as i32,
+        count: parts.count,
+        slots: parts.slots.map(slot),
+    }
+}

@@ -1,0 +1,315 @@
+// Printing straight from a record's bytes, where no Line has to be made first: most records of a listing are of the general
+// path or relative branches. Their text is that of their Line.
+ghost use mathlib.Core.List.{map};
+ghost use mathlib.Core.Path.{_≡_};
+ghost use mathlib.Core.Bool.{true, false, _||_};
+ghost use lib.Dec.{eqb};
+ghost use Rattle.text.specs.Words.{Table};
+ghost use Rattle.text.specs.Write.{Room, Put};
+ghost use Rattle.names.specs.Mnemonics.{mnemonics as names};
+ghost use Rattle.names.specs.Registers.{registers as regs};
+ghost use Rattle.operands.specs.Kinds.{isMemory};
+ghost use Rattle.bodies.specs.Body.{immOf, dispOf};
+ghost use Rattle.bodies.specs.Refusals.{Whole};
+ghost use Rattle.bodies.specs.Decoding.{operandAt, instructionOf};
+ghost use Rattle.arms.specs.Arms.{number, arms as armTable};
+ghost use Rattle.arms.specs.Parts.{labelledMemory};
+ghost use Rattle.arms.specs.Rewritten.{isBranch};
+ghost use Rattle.arrange.specs.Size.{hasLabel};
+ghost use Rattle.lines.specs.Text.{partedText, itemsText, lineText};
+ghost use Rattle.records.specs.Records.{recordText};
+ghost use Rattle.records.specs.Direct.{generalWay, branchWay, armWay, wayOf, isByLine, operandsWith, generalLine, branchLine};
+use crate::Way;
+use arms::Arm;
+use arms::general::general_label;
+use arms::parts::bare_item;
+use arms::parts::labelled_memory;
+use arms::table::arm_of;
+use arrange::heads::head_of;
+use bodies::numbers;
+use bodies::parts::operand_at;
+use bodies::rules;
+use lines::head::put_head;
+use lines::shown::put_parted;
+use names::mnemonics;
+use names::registers;
+use operands::Label;
+
+fn is_memory_at(body: &[u8], k: usize) -> bool
+    requires { ⌜ Whole (now body) ⌝ }
+    ensures { λ r. ⌜ r ≡ isMemory (operandAt (now (body .entry)) k) ⌝ }
+{
+    if k < (numbers::byte_at(body, 13) as usize) {
+        let at = 14 + 5 * k;
+        9 <= body[at]
+    } else {
+        false
+    }
+}
+
+fn has_memory(body: &[u8]) -> bool
+    requires { ⌜ Whole (now body) ⌝ }
+    ensures { λ r. ⌜ r ≡ (isMemory (operandAt (now (body .entry)) 0) || (isMemory (operandAt (now (body .entry)) 1) || isMemory (operandAt (now (body .entry)) 2) || isMemory (operandAt (now (body .entry)) 3))) ⌝ }
+{
+    let a = is_memory_at(body, 0);
+    let b = is_memory_at(body, 1);
+    let c = is_memory_at(body, 2);
+    let d = is_memory_at(body, 3);
+    a | (b | c | d)
+}
+
+// A size whose memory operands are never refused.
+fn needs_no_look(size: u8) -> bool
+    ensures { λ r. ⌜ r ≡ (hasLabel size || (eqb size 63 || eqb size 48)) ⌝ }
+{
+    (size == 1)
+        | (size == 2)
+        | (size == 4)
+        | (size == 8)
+        | (size == 16)
+        | (size == 32)
+        | (size == 64)
+        | ((size == 63) | (size == 48))
+}
+
+fn general_way(body: &[u8]) -> Way
+    requires { ⌜ Whole (now body) ⌝ }
+    ensures { λ r. ⌜ r ≡ generalWay (instructionOf (now (body .entry))) ⌝ }
+{
+    let size = body[4];
+    if size == 8 {
+        return Way::ByLine;
+    }
+    if needs_no_look(size) {
+        return Way::General;
+    }
+    if has_memory(body) {
+        Way::ByLine
+    } else {
+        Way::General
+    }
+}
+
+fn branch_way(body: &[u8]) -> Way
+    requires { ⌜ Whole (now body) ⌝ }
+    ensures { λ r. ⌜ r ≡ branchWay (instructionOf (now (body .entry))) ⌝ }
+{
+    if 0 < body[13] {
+        let kind = body[14];
+        if (kind == 3) | (kind == 5) {
+            Way::Branch
+        } else {
+            Way::ByLine
+        }
+    } else {
+        Way::ByLine
+    }
+}
+
+fn arm_way(arm: Arm, body: &[u8]) -> Way
+    requires { ⌜ Whole (now body) ⌝ }
+    ensures { λ r. ⌜ r ≡ armWay arm (instructionOf (now (body .entry))) ⌝ }
+{
+    match arm {
+        Arm::General => general_way(body),
+        Arm::Branch => branch_way(body),
+        _ => Way::ByLine,
+    }
+}
+
+pub fn is_by_line(way: Way) -> bool
+    ensures { λ r. ⌜ r ≡ isByLine way ⌝ }
+{
+    match way {
+        Way::ByLine => true,
+        Way::General => false,
+        Way::Branch => false,
+    }
+}
+
+pub fn way_of(arms: &[u8; 154], body: &[u8], mode: u32) -> Way
+    requires { ⌜ now arms ≡ map number armTable ⌝ }
+    ensures { λ r. ⌜ r ≡ wayOf mode (now (body .entry)) ⌝ }
+{
+    if 1 < mode {
+        return Way::ByLine;
+    }
+    if rules::length_refused(body) {
+        return Way::ByLine;
+    }
+    if rules::field_refused(body) {
+        return Way::ByLine;
+    }
+    let arm = arm_of(arms, numbers::word_at(body, 0));
+    arm_way(arm, body)
+}
+
+fn put_operand(
+    text: &mut [u8],
+    at: usize,
+    letters: &registers::Letters,
+    starts: &registers::Starts,
+    separator: &[u8],
+    label: Label,
+    body: &[u8],
+    k: usize,
+    imm: u32,
+    disp: u32,
+) -> usize
+    requires { ⌜ Table regs (now letters) (now starts) ⌝ }
+    requires { ⌜ Whole (now body) ⌝ }
+    requires { ⌜ imm ≡ immOf (now body) ⌝ }
+    requires { ⌜ disp ≡ dispOf (now body) ⌝ }
+    requires { ⌜ Room (now text) at (partedText (now separator) (labelledMemory label (operandAt (now body) k))) ⌝ }
+    ensures { λ r. ⌜ Put (now (text .entry)) at (partedText (now (separator .entry)) (labelledMemory label (operandAt (now (body .entry)) k))) r (now (text .exit)) ⌝ }
+{
+    let item = labelled_memory(label, operand_at(body, k, imm, disp));
+    put_parted(text, at, letters, starts, separator, item)
+}
+
+// The operands with one label for those that are memory. Few records have more than two.
+fn put_operands(
+    text: &mut [u8],
+    at: usize,
+    letters: &registers::Letters,
+    starts: &registers::Starts,
+    label: Label,
+    body: &[u8],
+) -> usize
+    requires { ⌜ Table regs (now letters) (now starts) ⌝ }
+    requires { ⌜ Whole (now body) ⌝ }
+    requires { ⌜ Room (now text) at (itemsText (operandsWith label (now body))) ⌝ }
+    ensures { λ r. ⌜ Put (now (text .entry)) at (itemsText (operandsWith label (now (body .entry)))) r (now (text .exit)) ⌝ }
+{
+    let imm = numbers::dword_at(body, 5);
+    let disp = numbers::dword_at(body, 9);
+    let next = put_operand(text, at, letters, starts, b" ", label, body, 0, imm, disp);
+    let next = put_operand(
+        text,
+        next,
+        letters,
+        starts,
+        b", ",
+        label,
+        body,
+        1,
+        imm,
+        disp,
+    );
+    if body[13] <= 2 {
+        return next;
+    }
+    let next = put_operand(
+        text,
+        next,
+        letters,
+        starts,
+        b", ",
+        label,
+        body,
+        2,
+        imm,
+        disp,
+    );
+    put_operand(
+        text,
+        next,
+        letters,
+        starts,
+        b", ",
+        label,
+        body,
+        3,
+        imm,
+        disp,
+    )
+}
+
+fn put_general(
+    name_letters: &mnemonics::Letters,
+    name_starts: &mnemonics::Starts,
+    register_letters: &registers::Letters,
+    register_starts: &registers::Starts,
+    body: &[u8],
+    text: &mut [u8],
+    at: usize,
+) -> usize
+    requires { ⌜ Table names (now «name_letters») (now «name_starts») ⌝ }
+    requires { ⌜ Table regs (now «register_letters») (now «register_starts») ⌝ }
+    requires { ⌜ Whole (now body) ⌝ }
+    requires { ⌜ Room (now text) at (lineText (generalLine (instructionOf (now body)))) ⌝ }
+    ensures { λ r. ⌜ Put (now (text .entry)) at (lineText (generalLine (instructionOf (now (body .entry))))) r (now (text .exit)) ⌝ }
+{
+    let head = head_of(Arm::General, numbers::word_at(body, 0), body[2]);
+    let label = general_label(false, false, body[4]);
+    let next = put_head(text, at, name_letters, name_starts, head);
+    put_operands(text, next, register_letters, register_starts, label, body)
+}
+
+fn put_branch(
+    name_letters: &mnemonics::Letters,
+    name_starts: &mnemonics::Starts,
+    register_letters: &registers::Letters,
+    register_starts: &registers::Starts,
+    body: &[u8],
+    straight: bool,
+    text: &mut [u8],
+    at: usize,
+) -> usize
+    requires { ⌜ Table names (now «name_letters») (now «name_starts») ⌝ }
+    requires { ⌜ Table regs (now «register_letters») (now «register_starts») ⌝ }
+    requires { ⌜ Whole (now body) ⌝ }
+    requires { ⌜ isBranch (operandAt (now body) 0) ≡ true ⌝ }
+    requires { ⌜ Room (now text) at (lineText (branchLine straight (instructionOf (now body)))) ⌝ }
+    ensures { λ r. ⌜ Put (now (text .entry)) at (lineText (branchLine straight (instructionOf (now (body .entry))))) r (now (text .exit)) ⌝ }
+{
+    let kind = body[14];
+    let value = numbers::immediate_of(kind, numbers::dword_at(body, 5));
+    let item = bare_item(branches::branch_shown(straight, kind, value, body[3]));
+    let head = head_of(Arm::Branch, numbers::word_at(body, 0), body[2]);
+    let next = put_head(text, at, name_letters, name_starts, head);
+    put_parted(text, next, register_letters, register_starts, b" ", item)
+}
+
+// The text of a record that goes a way of its own.
+pub fn put_direct(
+    name_letters: &mnemonics::Letters,
+    name_starts: &mnemonics::Starts,
+    register_letters: &registers::Letters,
+    register_starts: &registers::Starts,
+    way: Way,
+    body: &[u8],
+    mode: u32,
+    text: &mut [u8],
+    at: usize,
+) -> usize
+    requires { ⌜ Table names (now «name_letters») (now «name_starts») ⌝ }
+    requires { ⌜ Table regs (now «register_letters») (now «register_starts») ⌝ }
+    requires { ⌜ way ≡ wayOf mode (now body) ⌝ }
+    requires { ⌜ isByLine way ≡ false ⌝ }
+    requires { ⌜ Room (now text) at (recordText mode (now body)) ⌝ }
+    ensures { λ r. ⌜ Put (now (text .entry)) at (recordText mode (now (body .entry))) r (now (text .exit)) ⌝ }
+{
+    match way {
+        Way::ByLine => at,
+        Way::General => put_general(
+            name_letters,
+            name_starts,
+            register_letters,
+            register_starts,
+            body,
+            text,
+            at,
+        ),
+        Way::Branch => put_branch(
+            name_letters,
+            name_starts,
+            register_letters,
+            register_starts,
+            body,
+            mode == 1,
+            text,
+            at,
+        ),
+    }
+}
