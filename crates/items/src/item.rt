@@ -13,7 +13,7 @@ use names::registers::Starts;
 use operands::Item;
 use operands::Shown;
 
-fn put_word(buf: &mut [u8], at: usize, address: u16) -> usize
+pub fn put_word(buf: &mut [u8], at: usize, address: u16) -> usize
     requires { ⌜ Room (now buf) at (absoluteText 4 address) ⌝ }
     ensures { λ r. ⌜ Put (now (buf .entry)) at (absoluteText 4 address) r (now (buf .exit)) ⌝ }
 {
@@ -22,7 +22,7 @@ fn put_word(buf: &mut [u8], at: usize, address: u16) -> usize
     text::put_byte(buf, next, b']')
 }
 
-fn put_dword(buf: &mut [u8], at: usize, address: u32) -> usize
+pub fn put_dword(buf: &mut [u8], at: usize, address: u32) -> usize
     requires { ⌜ Room (now buf) at (absoluteText 8 address) ⌝ }
     ensures { λ r. ⌜ Put (now (buf .entry)) at (absoluteText 8 address) r (now (buf .exit)) ⌝ }
 {

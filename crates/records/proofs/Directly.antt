@@ -3,27 +3,37 @@
 use mathlib.Core.Path.{_≡_, refl, sym, ap, _∙_}
 use mathlib.Core.Bool.{Bool, true, false, cond, not, _&&_, _||_, true≢false, false≢true}
 use mathlib.Core.Logic.{⊎-elim}
-use mathlib.Core.List.{List, [], _∷_, _++_, append-nil}
-use Prim.Native.Nat.{ℕ, _+_, _≤_, _<_}
+use mathlib.Core.List.{List, [], _∷_, _++_, append-nil, append-assoc}
+use Prim.Native.Nat.{ℕ, zero, suc, _+_, _-_, _≤_, _<_}
 use native.Mathlib.Omega.{arith}
 use lib.Dec.{eqb, leb, ltb}
-use borrow.Author.Tests.{leb-true, leb-false, le-leb, lt-leb, ltb-true, ltb-false, lt-ltb, le-ltb, eqb-true, ne-eqb, not-true}
+use borrow.Author.Tests.{leb-true, leb-false, le-leb, lt-leb, ltb-true, ltb-false, lt-ltb, le-ltb, eqb-true, eq-eqb, ne-eqb, not-true}
+use Rattle.text.specs.Choice.{when}
 use Rattle.text.specs.Words.{bytes}
-use Rattle.operands.specs.Kinds.{isMemory}
+use Rattle.numerals.specs.Numerals.{numeral}
+use Rattle.names.specs.Registers.{registerName}
+use Rattle.items.specs.Labels.{labelText, segmentText}
+use Rattle.items.specs.Brackets.{bracketText}
+use Rattle.items.specs.Items.{absoluteText, shownText, itemText}
+use Rattle.operands.specs.Kinds.{isAbsent, isMemory}
 use Rattle.operands.specs.declared.Operand.{Operand}
 use Rattle.operands.specs.declared.Operand.the-variants.{Absent, Imm}
+use Rattle.operands.specs.declared.Operand.the-variants as operand
+use Rattle.operands.specs.declared.Address.{Address}
+use Rattle.operands.specs.declared.Items.{Items}
 use Rattle.operands.specs.declared.Instruction.{Instruction}
 use Rattle.operands.specs.declared.Item.{Item}
 use Rattle.operands.specs.declared.Label.{Label}
 use Rattle.bodies.specs.Body.{byte, opcodeOf, flagsOf, lengthOf, sizeOf, countOf, immOf, dispOf, placeOf}
 use Rattle.bodies.specs.Refusals.{lengthRefused, fieldRefused, Whole}
 use Rattle.bodies.specs.Decoding.{immediate, operandOf, operandAt, instructionOf}
+use Rattle.bodies.proofs.Accepted.{absent-from-count}
 use Rattle.bodies.proofs.Lengths.{whole}
 use Rattle.bodies.proofs.Picks.{either, neither-left, neither-right, picked}
 use Rattle.branches.specs.Sums.{branchShown}
 use Rattle.arms.specs.Arms.{number}
 use Rattle.arms.specs.General.{generalLabel, general, hasVector}
-use Rattle.arms.specs.Parts.{bare, labelledMemory}
+use Rattle.arms.specs.Parts.{bare, labelledMemory, four}
 use Rattle.arms.specs.Rewritten.{isBranch}
 use Rattle.arms.specs.Shows.{itemsOf}
 use Rattle.arms.specs.declared.Arm.{Arm}
@@ -35,12 +45,12 @@ use Rattle.arrange.specs.Line.{lineOf}
 use Rattle.arrange.specs.Shape.{shapeRefused}
 use Rattle.arrange.specs.Size.{hasLabel, generalRefused, sizeRefused}
 use Rattle.arrange.specs.declared.Line.{Line}
-use Rattle.lines.specs.Text.{partedText, itemsText, headText, lineText}
+use Rattle.lines.specs.Text.{shows, partedText, itemsText, headText, lineText}
 use Rattle.records.specs.Records.{modeRefused, straight, lineAt, recordText}
 use Rattle.records.specs.Records as records
 use Rattle.records.specs.Judged.{judged}
 use Rattle.records.specs.declared.Judged.the-variants.{Shown}
-use Rattle.records.specs.Direct.{generalWay, branchWay, armWay, wayOf, isByLine, operandsWith, generalLine, branchLine}
+use Rattle.records.specs.Direct.{generalWay, branchWay, armWay, wayOf, isByLine, separator, operandsFrom, generalLine, branchLine}
 use Rattle.records.proofs.Judging.{line-at}
 use Rattle.records.specs.declared.Way.{Way}
 use Rattle.records.specs.declared.Way.the-variants.{ByLine, General, Branch}
@@ -252,7 +262,12 @@ module _ (mode : ℕ) (body : List ℕ) (m : modeRefused mode ≡ false) (l : le
 -- what is known where a record goes its own way
 pub record Direct (mode : ℕ) (body : List ℕ) (line : Line) : Type 0 where
   pub whole : Whole body
+  pub few : countOf body ≤ 4
   pub shown : judged mode body ≡ Shown line
+
+few-counted : (body : List ℕ) → fieldRefused body ≡ false → countOf body ≤ 4
+unfolding fieldRefused
+few-counted body e = ltb-false 4 (countOf body) (search (neither-left, neither-right, e))
 
 module _ (mode : ℕ) (body : List ℕ) where
   tests-general : wayOf mode body ≡ General → Taken (modeRefused mode) (lengthRefused body) (fieldRefused body) (same (records.armAt body) arm.General) (not (eqb (instructionOf body .size) 8 || generalRefused false false (instructionOf body)))
@@ -276,6 +291,7 @@ module _ (mode : ℕ) (body : List ℕ) where
       let kept : (eqb (i .size) 8 || generalRefused false false i) ≡ false = not-true (eqb (i .size) 8 || generalRefused false false i) (t .test) in
       record {
         whole = whole body (t .kept .no-length);
+        few = few-counted body (t .kept .no-field);
         shown =
             shown-by mode body (t .kept .no-mode) (t .kept .no-length) (t .kept .no-field)
             (same-arm (records.armAt body) arm.General (t .arm))
@@ -290,6 +306,7 @@ module _ (mode : ℕ) (body : List ℕ) where
       let i = instructionOf body in
       record {
         whole = whole body (t .kept .no-length);
+        few = few-counted body (t .kept .no-field);
         shown =
             shown-by mode body (t .kept .no-mode) (t .kept .no-length) (t .kept .no-field)
             (same-arm (records.armAt body) arm.Branch (t .arm))
@@ -318,15 +335,93 @@ module _ (mode : ℕ) (body : List ℕ) where
   unfolding wayOf
   way-by-arm m l f a = rw (m, l, f, a)
 
--- the texts of the two ways, from the body's bytes
-pub few-operands : (label : Label) (body : List ℕ) → countOf body ≤ 2 → itemsText (operandsWith label body) ≡ partedText (bytes " ") (labelledMemory label (operandAt body 0)) ++ partedText (bytes ", ") (labelledMemory label (operandAt body 1))
-unfolding itemsText partedText
-few-operands label body h =
-    rw (operand-none body 2 h, operand-none body 3 (omega arith), append-nil (partedText (bytes ", ") (labelledMemory label (operandAt body 1))))
+-- what stands before an operand
+pub separator-first : (k : ℕ) → k ≡ 0 → separator k ≡ bytes " "
+separator-first k e = rw (eq-eqb k 0 e)
 
-pub general-text : (body : List ℕ) → lineText (generalLine (instructionOf body)) ≡ headText (headOf arm.General (opcodeOf body) (flagsOf body)) ++ itemsText (operandsWith (generalLabel false false (sizeOf body)) body)
+pub separator-later : (k : ℕ) → (k ≡ 0 → ⊥) → separator k ≡ bytes ", "
+separator-later k e = rw (ne-eqb k 0 e)
+
+-- all operands of a record, with one label for those that are memory
+abbrev operandsWith : Label → List ℕ → Items
+operandsWith label body =
+    four (labelledMemory label (operandAt body 0)) (labelledMemory label (operandAt body 1)) (labelledMemory label (operandAt body 2))
+    (labelledMemory label (operandAt body 3))
+
+-- an operand shows something exactly before the count
+shows-operand : (label : Label) (o : Operand) → shows (labelledMemory label o .shown) ≡ not (isAbsent o)
+shows-operand label operand.Absent = refl
+shows-operand label (operand.Register place reg) = refl
+shows-operand label (operand.Imm kind value) = refl
+shows-operand label (operand.Absolute16 segment address) = refl
+shows-operand label (operand.Absolute32 segment address) = refl
+shows-operand label (operand.Memory segment address) = refl
+
+twice : (b : Bool) → not (not b) ≡ b
+twice true = refl
+twice false = refl
+
+module _ (label : Label) (body : List ℕ) where
+  abbrev pub operandText : ℕ → List ℕ
+  operandText k = itemText (labelledMemory label (operandAt body k))
+
+  shows-there : (k : ℕ) → shows (labelledMemory label (operandAt body k) .shown) ≡ ltb k (countOf body)
+  shows-there k = shows-operand label (operandAt body k) ∙ (ap not (absent-from-count body k) ∙ twice (ltb k (countOf body)))
+
+  parted-there : (s : List ℕ) (k : ℕ) → partedText s (labelledMemory label (operandAt body k)) ≡ when (ltb k (countOf body)) (s ++ operandText k)
+  unfolding partedText
+  parted-there s k = ap (λ (t : Bool). when t (s ++ operandText k)) (shows-there k)
+
+  -- a record has four operands at most
+  all-operands : (n : ℕ) → n ≤ 4 → countOf body ≡ n → itemsText (operandsWith label body) ≡ operandsFrom n 0 label body
+  unfolding itemsText
+  all-operands zero h e = rw (parted-there (bytes " ") 0, parted-there (bytes ", ") 1, parted-there (bytes ", ") 2, parted-there (bytes ", ") 3, e)
+  all-operands (suc zero) h e = rw (parted-there (bytes " ") 0, parted-there (bytes ", ") 1, parted-there (bytes ", ") 2, parted-there (bytes ", ") 3, e)
+  all-operands (suc (suc zero)) h e = rw (parted-there (bytes " ") 0, parted-there (bytes ", ") 1, parted-there (bytes ", ") 2, parted-there (bytes ", ") 3, e)
+  all-operands (suc (suc (suc zero))) h e = rw (parted-there (bytes " ") 0, parted-there (bytes ", ") 1, parted-there (bytes ", ") 2, parted-there (bytes ", ") 3, e)
+  all-operands (suc (suc (suc (suc zero)))) h e =
+      rw (parted-there (bytes " ") 0, parted-there (bytes ", ") 1, parted-there (bytes ", ") 2, parted-there (bytes ", ") 3, e, append-nil (operandText 3))
+  all-operands (suc (suc (suc (suc (suc n))))) h e = absurd (omega arith)
+
+  -- operand k, and those behind it
+  pub operands-next : (n k : ℕ) → k < n → operandsFrom (n - k) k label body ≡ separator k ++ (operandText k ++ operandsFrom (n - (k + 1)) (k + 1) label body)
+  operands-next n k h = ap (λ (m : ℕ). operandsFrom m k label body) (let e : n - k ≡ suc (n - (k + 1)) = omega arith in e)
+
+  pub operands-none : (n k : ℕ) → n ≤ k → operandsFrom (n - k) k label body ≡ []
+  operands-none n k h = ap (λ (m : ℕ). operandsFrom m k label body) (let e : n - k ≡ 0 = omega arith in e)
+
+-- how an operand is shown, case by case
+module _ (label : Label) where
+  pub text-absent : {o : Operand} → o ≡ operand.Absent → itemText (labelledMemory label o) ≡ []
+  unfolding itemText labelText segmentText shownText
+  text-absent e = rw e
+
+  pub text-register : {o : Operand} {place reg : ℕ} → o ≡ operand.Register place reg → itemText (labelledMemory label o) ≡ registerName reg
+  unfolding itemText labelText segmentText shownText
+  text-register e = rw e
+
+  pub text-number : {o : Operand} {kind value : ℕ} → o ≡ operand.Imm kind value → itemText (labelledMemory label o) ≡ numeral value
+  unfolding itemText labelText segmentText shownText
+  text-number e = rw e
+
+  pub text-word : {o : Operand} {segment address : ℕ} → o ≡ operand.Absolute16 segment address → itemText (labelledMemory label o) ≡ labelText label ++ segmentText segment ++ absoluteText 4 address
+  unfolding itemText shownText
+  text-word {segment = segment} {address} e = rw e (sym (append-assoc (labelText label) (segmentText segment) (absoluteText 4 address)))
+
+  pub text-dword : {o : Operand} {segment address : ℕ} → o ≡ operand.Absolute32 segment address → itemText (labelledMemory label o) ≡ labelText label ++ segmentText segment ++ absoluteText 8 address
+  unfolding itemText shownText
+  text-dword {segment = segment} {address} e = rw e (sym (append-assoc (labelText label) (segmentText segment) (absoluteText 8 address)))
+
+  pub text-bracket : {o : Operand} {segment : ℕ} {address : Address} → o ≡ operand.Memory segment address → itemText (labelledMemory label o) ≡ labelText label ++ segmentText segment ++ bracketText address
+  unfolding itemText shownText
+  text-bracket {segment = segment} {address} e = rw e (sym (append-assoc (labelText label) (segmentText segment) (bracketText address)))
+
+-- the texts of the two ways, from the body's bytes
+pub general-text : (body : List ℕ) → countOf body ≤ 4 → lineText (generalLine (instructionOf body)) ≡ headText (headOf arm.General (opcodeOf body) (flagsOf body)) ++ operandsFrom (countOf body) 0 (generalLabel false false (sizeOf body)) body
 unfolding lineText generalLine general instructionOf
-general-text body = refl
+general-text body h =
+    ap (λ (t : List ℕ). headText (headOf arm.General (opcodeOf body) (flagsOf body)) ++ t)
+    (all-operands (generalLabel false false (sizeOf body)) body (countOf body) h refl)
 
 -- what a branch shows
 abbrev pub branchItem : Bool → List ℕ → Item

@@ -2,16 +2,18 @@
 -- up listings, and no promise rests on it: the text is proved to be the record's.
 -- Assumes nothing.
 use mathlib.Core.Bool.{Bool, true, false, cond, _||_}
-use mathlib.Core.List.{List}
-use Prim.Native.Nat.{ℕ}
+use mathlib.Core.List.{List, [], _++_}
+use Prim.Native.Nat.{ℕ, zero, suc, _+_}
 use lib.Dec.{eqb}
+use Rattle.text.specs.Choice.{pick}
+use Rattle.text.specs.Words.{bytes}
+use Rattle.items.specs.Items.{itemText}
 use Rattle.operands.specs.declared.Instruction.{Instruction}
-use Rattle.operands.specs.declared.Items.{Items}
 use Rattle.operands.specs.declared.Label.{Label}
 use Rattle.bodies.specs.Refusals.{lengthRefused, fieldRefused}
 use Rattle.bodies.specs.Decoding.{operandAt, instructionOf}
 use Rattle.arms.specs.General.{general}
-use Rattle.arms.specs.Parts.{labelledMemory, four}
+use Rattle.arms.specs.Parts.{labelledMemory}
 use Rattle.arms.specs.Rewritten.{isBranch, branch}
 use Rattle.arms.specs.declared.Arm.{Arm}
 use Rattle.arms.specs.declared.Arm.the-variants as arm
@@ -44,11 +46,14 @@ isByLine ByLine = true
 isByLine General = false
 isByLine Branch = false
 
--- a record's operands, with one label for those that are memory
-abbrev pub operandsWith : Label → List ℕ → Items
-operandsWith label body =
-    four (labelledMemory label (operandAt body 0)) (labelledMemory label (operandAt body 1)) (labelledMemory label (operandAt body 2))
-    (labelledMemory label (operandAt body 3))
+-- what parts operand k from the text before it
+abbrev pub separator : ℕ → List ℕ
+separator k = pick (eqb k 0) (bytes " ") (bytes ", ")
+
+-- n operands from number k on, with one label for those that are memory
+abbrev pub operandsFrom : ℕ → ℕ → Label → List ℕ → List ℕ
+operandsFrom zero k label body = []
+operandsFrom (suc n) k label body = separator k ++ (itemText (labelledMemory label (operandAt body k)) ++ operandsFrom n (k + 1) label body)
 
 -- what the lines of the two ways show
 unfoldable pub generalLine : Instruction → Line

@@ -1,29 +1,31 @@
 // Printing straight from a record's bytes, where no Line has to be made first: most records of a listing are of the general
 // path or relative branches. Their text is that of their Line.
-ghost use mathlib.Core.List.{map};
+ghost use mathlib.Core.List.{map, _++_};
 ghost use mathlib.Core.Path.{_≡_};
 ghost use mathlib.Core.Bool.{true, false, _||_};
+ghost use Prim.Native.Nat.{_≤_};
 ghost use lib.Dec.{eqb};
 ghost use Rattle.text.specs.Words.{Table};
 ghost use Rattle.text.specs.Write.{Room, Put};
 ghost use Rattle.names.specs.Mnemonics.{mnemonics as names};
 ghost use Rattle.names.specs.Registers.{registers as regs};
+ghost use Rattle.items.specs.Labels.{labelText, segmentText};
+ghost use Rattle.items.specs.Items.{itemText};
 ghost use Rattle.operands.specs.Kinds.{isMemory};
-ghost use Rattle.bodies.specs.Body.{immOf, dispOf};
+ghost use Rattle.bodies.specs.Body.{countOf};
 ghost use Rattle.bodies.specs.Refusals.{Whole};
 ghost use Rattle.bodies.specs.Decoding.{operandAt, instructionOf};
 ghost use Rattle.arms.specs.Arms.{number, arms as armTable};
 ghost use Rattle.arms.specs.Parts.{labelledMemory};
 ghost use Rattle.arms.specs.Rewritten.{isBranch};
 ghost use Rattle.arrange.specs.Size.{hasLabel};
-ghost use Rattle.lines.specs.Text.{partedText, itemsText, lineText};
+ghost use Rattle.lines.specs.Text.{lineText};
 ghost use Rattle.records.specs.Records.{recordText};
-ghost use Rattle.records.specs.Direct.{generalWay, branchWay, armWay, wayOf, isByLine, operandsWith, generalLine, branchLine};
+ghost use Rattle.records.specs.Direct.{generalWay, branchWay, armWay, wayOf, isByLine, separator, operandsFrom, generalLine, branchLine};
 use crate::Way;
 use arms::Arm;
 use arms::general::general_label;
 use arms::parts::bare_item;
-use arms::parts::labelled_memory;
 use arms::table::arm_of;
 use arrange::heads::head_of;
 use bodies::numbers;
@@ -34,6 +36,7 @@ use lines::shown::put_parted;
 use names::mnemonics;
 use names::registers;
 use operands::Label;
+use operands::Operand;
 
 fn is_memory_at(body: &[u8], k: usize) -> bool
     requires { ⌜ Whole (now body) ⌝ }
@@ -144,30 +147,64 @@ pub fn way_of(arms: &[u8; 154], body: &[u8], mode: u32) -> Way
     arm_way(arm, body)
 }
 
+fn put_front(text: &mut [u8], at: usize, label: Label, segment: u8) -> usize
+    requires { ⌜ Room (now text) at (labelText label ++ segmentText segment) ⌝ }
+    ensures { λ r. ⌜ Put (now (text .entry)) at (labelText label ++ segmentText segment) r (now (text .exit)) ⌝ }
+{
+    let next = items::label::put_label(text, at, label);
+    items::label::put_segment(text, next, segment)
+}
+
+// An operand as the general path shows it. No Item is made of it: that would be stored and read again.
 fn put_operand(
     text: &mut [u8],
     at: usize,
     letters: &registers::Letters,
     starts: &registers::Starts,
-    separator: &[u8],
     label: Label,
-    body: &[u8],
-    k: usize,
-    imm: u32,
-    disp: u32,
+    o: Operand,
 ) -> usize
     requires { ⌜ Table regs (now letters) (now starts) ⌝ }
-    requires { ⌜ Whole (now body) ⌝ }
-    requires { ⌜ imm ≡ immOf (now body) ⌝ }
-    requires { ⌜ disp ≡ dispOf (now body) ⌝ }
-    requires { ⌜ Room (now text) at (partedText (now separator) (labelledMemory label (operandAt (now body) k))) ⌝ }
-    ensures { λ r. ⌜ Put (now (text .entry)) at (partedText (now (separator .entry)) (labelledMemory label (operandAt (now (body .entry)) k))) r (now (text .exit)) ⌝ }
+    requires { ⌜ Room (now text) at (itemText (labelledMemory label o)) ⌝ }
+    ensures { λ r. ⌜ Put (now (text .entry)) at (itemText (labelledMemory label o)) r (now (text .exit)) ⌝ }
 {
-    let item = labelled_memory(label, operand_at(body, k, imm, disp));
-    put_parted(text, at, letters, starts, separator, item)
+    match o {
+        Operand::Absent => at,
+        Operand::Register { place: _, reg } => registers::put_register(
+            text,
+            at,
+            letters,
+            starts,
+            reg,
+        ),
+        Operand::Imm { kind: _, value } => numerals::numeral::put_numeral(text, at, value),
+        Operand::Absolute16 { segment, address } => {
+            let next = put_front(text, at, label, segment);
+            items::item::put_word(text, next, address)
+        }
+        Operand::Absolute32 { segment, address } => {
+            let next = put_front(text, at, label, segment);
+            items::item::put_dword(text, next, address)
+        }
+        Operand::Memory { segment, address } => {
+            let next = put_front(text, at, label, segment);
+            items::bracket::put_bracket(text, next, letters, starts, address)
+        }
+    }
 }
 
-// The operands with one label for those that are memory. Few records have more than two.
+fn put_separator(text: &mut [u8], at: usize, k: usize) -> usize
+    requires { ⌜ Room (now text) at (separator k) ⌝ }
+    ensures { λ r. ⌜ Put (now (text .entry)) at (separator k) r (now (text .exit)) ⌝ }
+{
+    if k == 0 {
+        text::put_byte(text, at, b' ')
+    } else {
+        text::put_bytes(text, at, b", ")
+    }
+}
+
+// All operands of a record, with one label for those that are memory.
 fn put_operands(
     text: &mut [u8],
     at: usize,
@@ -178,51 +215,27 @@ fn put_operands(
 ) -> usize
     requires { ⌜ Table regs (now letters) (now starts) ⌝ }
     requires { ⌜ Whole (now body) ⌝ }
-    requires { ⌜ Room (now text) at (itemsText (operandsWith label (now body))) ⌝ }
-    ensures { λ r. ⌜ Put (now (text .entry)) at (itemsText (operandsWith label (now (body .entry)))) r (now (text .exit)) ⌝ }
+    requires { ⌜ Room (now text) at (operandsFrom (countOf (now body)) 0 label (now body)) ⌝ }
+    ensures { λ r. ⌜ Put (now (text .entry)) at (operandsFrom (countOf (now (body .entry))) 0 label (now (body .entry))) r (now (text .exit)) ⌝ }
 {
     let imm = numbers::dword_at(body, 5);
     let disp = numbers::dword_at(body, 9);
-    let next = put_operand(text, at, letters, starts, b" ", label, body, 0, imm, disp);
-    let next = put_operand(
-        text,
-        next,
-        letters,
-        starts,
-        b", ",
-        label,
-        body,
-        1,
-        imm,
-        disp,
-    );
-    if body[13] <= 2 {
-        return next;
+    let count = numbers::byte_at(body, 13) as usize;
+    let mut k = 0;
+    let mut next = at;
+    while k < count {
+        next = put_separator(text, next, k);
+        next = put_operand(
+            text,
+            next,
+            letters,
+            starts,
+            label,
+            operand_at(body, k, imm, disp),
+        );
+        k += 1;
     }
-    let next = put_operand(
-        text,
-        next,
-        letters,
-        starts,
-        b", ",
-        label,
-        body,
-        2,
-        imm,
-        disp,
-    );
-    put_operand(
-        text,
-        next,
-        letters,
-        starts,
-        b", ",
-        label,
-        body,
-        3,
-        imm,
-        disp,
-    )
+    next
 }
 
 fn put_general(
@@ -237,6 +250,7 @@ fn put_general(
     requires { ⌜ Table names (now «name_letters») (now «name_starts») ⌝ }
     requires { ⌜ Table regs (now «register_letters») (now «register_starts») ⌝ }
     requires { ⌜ Whole (now body) ⌝ }
+    requires { ⌜ countOf (now body) ≤ 4 ⌝ }
     requires { ⌜ Room (now text) at (lineText (generalLine (instructionOf (now body)))) ⌝ }
     ensures { λ r. ⌜ Put (now (text .entry)) at (lineText (generalLine (instructionOf (now (body .entry))))) r (now (text .exit)) ⌝ }
 {

@@ -12,7 +12,6 @@ ghost use Rattle.records.specs.Answers.{textOutcome, Gives};
 ghost use Rattle.records.specs.Records.{recordOutcome};
 use crate::Answer;
 use crate::Judged;
-use crate::direct;
 use crate::judge;
 use arrange::Line;
 use names::mnemonics;
@@ -87,7 +86,7 @@ pub fn print_line(
     )
 }
 
-fn print_judged(
+pub fn print_record(
     name_letters: &mnemonics::Letters,
     name_starts: &mnemonics::Starts,
     register_letters: &registers::Letters,
@@ -117,49 +116,4 @@ fn print_judged(
             text,
         ),
     }
-}
-
-pub fn print_record(
-    name_letters: &mnemonics::Letters,
-    name_starts: &mnemonics::Starts,
-    register_letters: &registers::Letters,
-    register_starts: &registers::Starts,
-    arms: &[u8; 154],
-    body: &[u8],
-    mode: u32,
-    text: &mut [u8],
-) -> Answer
-    requires { ⌜ Table names (now «name_letters») (now «name_starts») ⌝ }
-    requires { ⌜ Table regs (now «register_letters») (now «register_starts») ⌝ }
-    requires { ⌜ now arms ≡ map number armTable ⌝ }
-    ensures { λ r. ⌜ Gives (recordOutcome mode (now (body .entry)) (now (text .entry))) r (now (text .exit)) ⌝ }
-{
-    // no line is longer
-    if 256 <= text.len() {
-        let way = direct::way_of(arms, body, mode);
-        if !direct::is_by_line(way) {
-            let written = direct::put_direct(
-                name_letters,
-                name_starts,
-                register_letters,
-                register_starts,
-                way,
-                body,
-                mode,
-                text,
-                0,
-            );
-            return Answer::Printed(written);
-        }
-    }
-    print_judged(
-        name_letters,
-        name_starts,
-        register_letters,
-        register_starts,
-        arms,
-        body,
-        mode,
-        text,
-    )
 }

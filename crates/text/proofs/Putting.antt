@@ -50,3 +50,21 @@ room-as {xs} {at} e room = subst (λ (u : List ℕ). Room xs at u) e room
 
 pub put-as : {xs : List ℕ} {at : ℕ} {s t : List ℕ} {r : ℕ} {ys : List ℕ} → s ≡ t → Put xs at s r ys → Put xs at t r ys
 put-as {xs} {at} {r = r} {ys} e put = subst (λ (u : List ℕ). Put xs at u r ys) e put
+
+-- What is left to be put, of a text that was to be put at the start: a loop's invariant. Whoever puts the rest has put the whole.
+pub record Left (start : List ℕ) (from : ℕ) (whole : List ℕ) (xs : List ℕ) (at : ℕ) (t : List ℕ) : Type 0 where
+  pub room : Room xs at t
+  pub ends : {r : ℕ} {ys : List ℕ} → Put xs at t r ys → Put start from whole r ys
+
+pub left-all : {xs : List ℕ} {at : ℕ} {t : List ℕ} → Room xs at t → Left xs at t xs at t
+left-all room = record { room = room; ends = λ put. put }
+
+pub left-next : {start : List ℕ} {from : ℕ} {whole xs : List ℕ} {at : ℕ} {s t : List ℕ} {m : ℕ} {ys : List ℕ} → Left start from whole xs at (s ++ t) → Put xs at s m ys → Left start from whole ys m t
+left-next l put = record { room = rest (l .room) put; ends = λ after. l .ends (and-then (l .room) put after) }
+
+pub left-none : {start : List ℕ} {from : ℕ} {whole xs : List ℕ} {at : ℕ} → Left start from whole xs at [] → Put start from whole at xs
+left-none l = l .ends put-none
+
+-- the same under another name
+pub left-as : {start : List ℕ} {from : ℕ} {whole xs : List ℕ} {at : ℕ} {s t : List ℕ} → s ≡ t → Left start from whole xs at s → Left start from whole xs at t
+left-as e l = record { room = room-as e (l .room); ends = λ put. l .ends (put-as (sym e) put) }

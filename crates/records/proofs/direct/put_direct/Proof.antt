@@ -22,7 +22,7 @@ enum-told-2 : tie.Need-enum-told-2
 enum-told-2 c = search needs
 
 put-general-requires : tie.Need-put-general-requires
-put-general-requires c κs = ((c .before .before .before .before .before .pre .0), ((c .before .before .before .before .before .pre .1 .0), (general-direct ((c .before .before .before .before .before .args .mode)) (now ((c .before .before .before .before .before .args .body))) (sym ((c .before .before .before .before .before .pre .1 .1 .0)) ∙ (c .before .enum-told2 .given .1)) .whole, room-as (text-general ((c .before .before .before .before .before .args .mode)) (now ((c .before .before .before .before .before .args .body))) (sym ((c .before .before .before .before .before .pre .1 .1 .0)) ∙ (c .before .enum-told2 .given .1))) ((c .before .before .before .before .before .pre .1 .1 .1 .1)))))
+put-general-requires c κs = ((c .before .before .before .before .before .pre .0), ((c .before .before .before .before .before .pre .1 .0), (general-direct ((c .before .before .before .before .before .args .mode)) (now ((c .before .before .before .before .before .args .body))) (sym ((c .before .before .before .before .before .pre .1 .1 .0)) ∙ (c .before .enum-told2 .given .1)) .whole, (general-direct ((c .before .before .before .before .before .args .mode)) (now ((c .before .before .before .before .before .args .body))) (sym ((c .before .before .before .before .before .pre .1 .1 .0)) ∙ (c .before .enum-told2 .given .1)) .few, room-as (text-general ((c .before .before .before .before .before .args .mode)) (now ((c .before .before .before .before .before .args .body))) (sym ((c .before .before .before .before .before .pre .1 .1 .0)) ∙ (c .before .enum-told2 .given .1))) ((c .before .before .before .before .before .pre .1 .1 .1 .1))))))
 
 enum-told-3 : tie.Need-enum-told-3
 enum-told-3 c = search needs

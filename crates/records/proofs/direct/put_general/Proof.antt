@@ -20,9 +20,14 @@ use Rattle.bodies.specs.Body.{byte}
 use Rattle.arms.specs.declared.Arm.the-variants.{General}
 use Rattle.arrange.specs.Head.{headOf}
 use Rattle.arrange.specs.declared.Head.{Head}
-use Rattle.lines.specs.Text.{itemsText, headText}
-use Rattle.records.specs.Direct.{operandsWith}
+use Rattle.lines.specs.Text.{headText}
 use Rattle.records.proofs.Directly.{general-text}
+use mathlib.Core.Path.{_≡_, sym, ap, ap₂, _∙_}
+use Prim.Native.Nat.{ℕ, _-_}
+use Rattle.text.proofs.Putting.{first, rest, and-then, room-as, put-as}
+use Rattle.bodies.specs.Body.{byte, countOf}
+use Rattle.lines.specs.Text.{headText}
+use Rattle.records.specs.Direct.{operandsFrom}
 
 word-at-requires : tie.Need-word-at-requires
 word-at-requires c κs = search needs
@@ -40,16 +45,16 @@ general-label-requires : tie.Need-general-label-requires
 general-label-requires c κs = search needs
 
 put-head-requires : tie.Need-put-head-requires
-put-head-requires c κs = ((c .before .before .before .before .before .before .before .before .pre .0), first (itemsText (operandsWith ((c .before .general-label .result)) (now ((c .before .before .before .before .before .before .before .before .args .body))))) (room-as (sym (ap₂ (λ (h : Head) (l : Label). headText h ++ itemsText (operandsWith l (now ((c .before .before .before .before .before .before .before .before .args .body))))) ((c .before .before .before .head-of .ensures) ∙ ap (λ (n : ℕ). headOf General n (byte (now ((c .before .before .before .before .before .before .before .before .args .body))) 2)) ((c .before .before .before .before .before .word-at .ensures))) ((c .before .general-label .ensures)) ∙ sym (general-text (now ((c .before .before .before .before .before .before .before .before .args .body)))))) ((c .before .before .before .before .before .before .before .before .pre .1 .1 .1))))
+put-head-requires c κs = ((c .before .before .before .before .before .before .before .before .pre .0), first (operandsFrom (countOf (now ((c .before .before .before .before .before .before .before .before .args .body)))) 0 ((c .before .general-label .result)) (now ((c .before .before .before .before .before .before .before .before .args .body)))) (room-as (sym (ap₂ (λ (h : Head) (l : Label). headText h ++ operandsFrom (countOf (now ((c .before .before .before .before .before .before .before .before .args .body)))) 0 l (now ((c .before .before .before .before .before .before .before .before .args .body)))) ((c .before .before .before .head-of .ensures) ∙ ap (λ (n : ℕ). headOf General n (byte (now ((c .before .before .before .before .before .before .before .before .args .body))) 2)) ((c .before .before .before .before .before .word-at .ensures))) ((c .before .general-label .ensures)) ∙ sym (general-text (now ((c .before .before .before .before .before .before .before .before .args .body))) ((c .before .before .before .before .before .before .before .before .pre .1 .1 .1 .0))))) ((c .before .before .before .before .before .before .before .before .pre .1 .1 .1 .1))))
 
 put-operands-requires : tie.Need-put-operands-requires
-put-operands-requires c κs = ((c .before .before .before .before .before .before .before .before .before .before .before .before .pre .1 .0), ((c .before .before .before .before .before .before .before .before .before .before .before .before .pre .1 .1 .0), rest (room-as (sym (ap₂ (λ (h : Head) (l : Label). headText h ++ itemsText (operandsWith l (now ((c .before .before .before .before .before .before .before .before .before .before .before .before .args .body))))) ((c .before .before .before .before .before .before .before .head-of .ensures) ∙ ap (λ (n : ℕ). headOf General n (byte (now ((c .before .before .before .before .before .before .before .before .before .before .before .before .args .body))) 2)) ((c .before .before .before .before .before .before .before .before .before .word-at .ensures))) ((c .before .before .before .before .before .general-label .ensures)) ∙ sym (general-text (now ((c .before .before .before .before .before .before .before .before .before .before .before .before .args .body)))))) ((c .before .before .before .before .before .before .before .before .before .before .before .before .pre .1 .1 .1))) ((c .before .before .before .put-head .ensures))))
+put-operands-requires c κs = ((c .before .before .before .before .before .before .before .before .before .before .before .before .pre .1 .0), ((c .before .before .before .before .before .before .before .before .before .before .before .before .pre .1 .1 .0), rest (room-as (sym (ap₂ (λ (h : Head) (l : Label). headText h ++ operandsFrom (countOf (now ((c .before .before .before .before .before .before .before .before .before .before .before .before .args .body)))) 0 l (now ((c .before .before .before .before .before .before .before .before .before .before .before .before .args .body)))) ((c .before .before .before .before .before .before .before .head-of .ensures) ∙ ap (λ (n : ℕ). headOf General n (byte (now ((c .before .before .before .before .before .before .before .before .before .before .before .before .args .body))) 2)) ((c .before .before .before .before .before .before .before .before .before .word-at .ensures))) ((c .before .before .before .before .before .general-label .ensures)) ∙ sym (general-text (now ((c .before .before .before .before .before .before .before .before .before .before .before .before .args .body))) ((c .before .before .before .before .before .before .before .before .before .before .before .before .pre .1 .1 .1 .0))))) ((c .before .before .before .before .before .before .before .before .before .before .before .before .pre .1 .1 .1 .1))) ((c .before .before .before .put-head .ensures))))
 
 same-length : tie.Need-same-length
 same-length c = search needs
 
 returns : tie.Need-returns
-returns c = put-as (ap₂ (λ (h : Head) (l : Label). headText h ++ itemsText (operandsWith l (now ((c .before .before .before .before .before .before .before .before .before .before .before .before .before .before .before .args .body))))) ((c .before .before .before .before .before .before .before .before .before .before .head-of .ensures) ∙ ap (λ (n : ℕ). headOf General n (byte (now ((c .before .before .before .before .before .before .before .before .before .before .before .before .before .before .before .args .body))) 2)) ((c .before .before .before .before .before .before .before .before .before .before .before .before .word-at .ensures))) ((c .before .before .before .before .before .before .before .before .general-label .ensures)) ∙ sym (general-text (now ((c .before .before .before .before .before .before .before .before .before .before .before .before .before .before .before .args .body))))) (and-then (room-as (sym (ap₂ (λ (h : Head) (l : Label). headText h ++ itemsText (operandsWith l (now ((c .before .before .before .before .before .before .before .before .before .before .before .before .before .before .before .args .body))))) ((c .before .before .before .before .before .before .before .before .before .before .head-of .ensures) ∙ ap (λ (n : ℕ). headOf General n (byte (now ((c .before .before .before .before .before .before .before .before .before .before .before .before .before .before .before .args .body))) 2)) ((c .before .before .before .before .before .before .before .before .before .before .before .before .word-at .ensures))) ((c .before .before .before .before .before .before .before .before .general-label .ensures)) ∙ sym (general-text (now ((c .before .before .before .before .before .before .before .before .before .before .before .before .before .before .before .args .body)))))) ((c .before .before .before .before .before .before .before .before .before .before .before .before .before .before .before .pre .1 .1 .1))) ((c .before .before .before .before .before .before .put-head .ensures)) ((c .before .before .put-operands .ensures)))
+returns c = put-as (ap₂ (λ (h : Head) (l : Label). headText h ++ operandsFrom (countOf (now ((c .before .before .before .before .before .before .before .before .before .before .before .before .before .before .before .args .body)))) 0 l (now ((c .before .before .before .before .before .before .before .before .before .before .before .before .before .before .before .args .body)))) ((c .before .before .before .before .before .before .before .before .before .before .head-of .ensures) ∙ ap (λ (n : ℕ). headOf General n (byte (now ((c .before .before .before .before .before .before .before .before .before .before .before .before .before .before .before .args .body))) 2)) ((c .before .before .before .before .before .before .before .before .before .before .before .before .word-at .ensures))) ((c .before .before .before .before .before .before .before .before .general-label .ensures)) ∙ sym (general-text (now ((c .before .before .before .before .before .before .before .before .before .before .before .before .before .before .before .args .body))) ((c .before .before .before .before .before .before .before .before .before .before .before .before .before .before .before .pre .1 .1 .1 .0)))) (and-then (room-as (sym (ap₂ (λ (h : Head) (l : Label). headText h ++ operandsFrom (countOf (now ((c .before .before .before .before .before .before .before .before .before .before .before .before .before .before .before .args .body)))) 0 l (now ((c .before .before .before .before .before .before .before .before .before .before .before .before .before .before .before .args .body)))) ((c .before .before .before .before .before .before .before .before .before .before .head-of .ensures) ∙ ap (λ (n : ℕ). headOf General n (byte (now ((c .before .before .before .before .before .before .before .before .before .before .before .before .before .before .before .args .body))) 2)) ((c .before .before .before .before .before .before .before .before .before .before .before .before .word-at .ensures))) ((c .before .before .before .before .before .before .before .before .general-label .ensures)) ∙ sym (general-text (now ((c .before .before .before .before .before .before .before .before .before .before .before .before .before .before .before .args .body))) ((c .before .before .before .before .before .before .before .before .before .before .before .before .before .before .before .pre .1 .1 .1 .0))))) ((c .before .before .before .before .before .before .before .before .before .before .before .before .before .before .before .pre .1 .1 .1 .1))) ((c .before .before .before .before .before .before .put-head .ensures)) ((c .before .before .put-operands .ensures)))
 
 pub put-general-spec : {M : Type 1} → statement M
 put-general-spec =

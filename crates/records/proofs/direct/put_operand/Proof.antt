@@ -1,35 +1,126 @@
--- `records::direct::put_operand` meets its contract.
+-- `records::direct::put_operand` meets its contract: in each case the text is that case's.
 -- Assumes nothing.
 use borrow.Author.Needs.{needs}
 use Rattle.records.proofs.direct.put_operand.Statement.{statement}
 use Rattle.records.proofs.direct.put_operand.Tie as tie
 use Rattle.records.proofs.direct.put_operand.Reads as reads
 use Rattle.records.proofs.direct.put_operand.Lts as lts
-use Rattle.arms.proofs.parts.labelled_memory.Reads as labelled-memory-reads
-use Rattle.bodies.proofs.parts.operand_at.Reads as operand-at-reads
-use Rattle.lines.proofs.shown.put_parted.Reads as put-parted-reads
-use denote.Ref.{now}
-use mathlib.Core.Path.{sym, ap, _∙_}
-use Rattle.text.proofs.Putting.{room-as, put-as}
-use Rattle.arms.specs.Parts.{labelledMemory}
-use Rattle.lines.specs.Text.{partedText}
+use Rattle.items.proofs.bracket.put_bracket.Reads as put-bracket-reads
+use Rattle.items.proofs.item.put_dword.Reads as put-dword-reads
+use Rattle.items.proofs.item.put_word.Reads as put-word-reads
+use Rattle.names.proofs.registers.put_register.Reads as put-register-reads
+use Rattle.numerals.proofs.numeral.put_numeral.Reads as put-numeral-reads
+use Rattle.records.proofs.direct.put_front.Reads as put-front-reads
+use mathlib.Core.Path.{_≡_, sym, _∙_}
+use mathlib.Core.List.{_++_}
+use Prim.Native.Nat.{_-_}
+use Rattle.text.proofs.Putting.{first, rest, and-then, put-none, room-as, put-as}
+use Rattle.records.proofs.Directly.{text-absent, text-register, text-number, text-word, text-dword, text-bracket}
+use mathlib.Core.Path.{_≡_, sym, _∙_}
+use Prim.Native.Nat.{_-_}
+use Rattle.text.proofs.Putting.{first, rest, and-then, put-none, room-as, put-as}
 
-operand-at-requires : tie.Need-operand-at-requires
-operand-at-requires c κs = search needs
+enum-told : tie.Need-enum-told
+enum-told c = search needs
 
-labelled-memory-requires : tie.Need-labelled-memory-requires
-labelled-memory-requires c κs = search needs
+enum-known-o : tie.Need-enum-known-o
+enum-known-o c = search needs
 
-put-parted-requires : tie.Need-put-parted-requires
-put-parted-requires c κs = ((c .before .before .before .before .before .before .pre .0), room-as (sym (ap (partedText (now ((c .before .before .before .before .before .before .args .separator)))) ((c .before .labelled-memory .ensures) ∙ ap (labelledMemory ((c .before .before .before .before .before .before .args .label))) ((c .before .before .operand-at .ensures))))) ((c .before .before .before .before .before .before .pre .1 .1 .1 .1)))
+put-register-requires : tie.Need-put-register-requires
+put-register-requires c κs = ((c .before .before .before .before .before .pre .0), room-as (text-register ((c .before .before .before .before .before .args .label)) ((c .before .before .o .given .1))) ((c .before .before .before .before .before .pre .1)))
+
+enum-known-o-2 : tie.Need-enum-known-o-2
+enum-known-o-2 c = search needs
+
+put-numeral-requires : tie.Need-put-numeral-requires
+put-numeral-requires c κs = room-as (text-number ((c .before .before .before .before .before .args .label)) ((c .before .before .o2 .given .1))) ((c .before .before .before .before .before .pre .1))
+
+enum-known-o-3 : tie.Need-enum-known-o-3
+enum-known-o-3 c = search needs
+
+put-front-requires : tie.Need-put-front-requires
+put-front-requires c κs = first _ (room-as (text-word ((c .before .before .before .before .before .args .label)) ((c .before .before .o3 .given .1))) ((c .before .before .before .before .before .pre .1)))
+
+put-word-requires : tie.Need-put-word-requires
+put-word-requires c κs = rest (room-as (text-word ((c .before .before .before .before .before .before .before .before .before .args .label)) ((c .before .before .before .before .before .before .o3 .given .1))) ((c .before .before .before .before .before .before .before .before .before .pre .1))) ((c .before .before .before .put-front .ensures))
+
+enum-known-o-4 : tie.Need-enum-known-o-4
+enum-known-o-4 c = search needs
+
+put-front-requires-2 : tie.Need-put-front-requires-2
+put-front-requires-2 c κs = first _ (room-as (text-dword ((c .before .before .before .before .before .args .label)) ((c .before .before .o4 .given .1))) ((c .before .before .before .before .before .pre .1)))
+
+put-dword-requires : tie.Need-put-dword-requires
+put-dword-requires c κs = rest (room-as (text-dword ((c .before .before .before .before .before .before .before .before .before .args .label)) ((c .before .before .before .before .before .before .o4 .given .1))) ((c .before .before .before .before .before .before .before .before .before .pre .1))) ((c .before .before .before .put-front2 .ensures))
+
+enum-known-o-5 : tie.Need-enum-known-o-5
+enum-known-o-5 c = search needs
+
+put-front-requires-3 : tie.Need-put-front-requires-3
+put-front-requires-3 c κs = first _ (room-as (text-bracket ((c .before .before .before .before .before .args .label)) ((c .before .before .o5 .given .1))) ((c .before .before .before .before .before .pre .1)))
+
+put-bracket-requires : tie.Need-put-bracket-requires
+put-bracket-requires c κs = ((c .before .before .before .before .before .before .before .before .before .pre .0), rest (room-as (text-bracket ((c .before .before .before .before .before .before .before .before .before .args .label)) ((c .before .before .before .before .before .before .o5 .given .1))) ((c .before .before .before .before .before .before .before .before .before .pre .1))) ((c .before .before .before .put-front3 .ensures)))
+
+returns : tie.Need-returns
+returns c = put-as (sym (text-absent ((c .before .before .before .args .label)) ((c .enum-told .given .1)))) put-none
 
 same-length : tie.Need-same-length
 same-length c = search needs
 
-returns : tie.Need-returns
-returns c = put-as (ap (partedText (now ((c .before .before .before .before .before .before .before .before .before .args .separator)))) ((c .before .before .before .before .labelled-memory .ensures) ∙ ap (labelledMemory ((c .before .before .before .before .before .before .before .before .before .args .label))) ((c .before .before .before .before .before .operand-at .ensures)))) ((c .before .before .put-parted .ensures))
+returns-2 : tie.Need-returns-2
+returns-2 c = put-as (sym (text-register ((c .before .before .before .before .before .before .before .before .args .label)) ((c .before .before .before .before .before .o .given .1)))) ((c .before .before .put-register .ensures))
+
+same-length-2 : tie.Need-same-length-2
+same-length-2 c = search needs
+
+returns-3 : tie.Need-returns-3
+returns-3 c = put-as (sym (text-number ((c .before .before .before .before .before .before .before .before .args .label)) ((c .before .before .before .before .before .o2 .given .1)))) ((c .before .before .put-numeral .ensures))
+
+same-length-3 : tie.Need-same-length-3
+same-length-3 c = search needs
+
+returns-4 : tie.Need-returns-4
+returns-4 c = put-as (sym (text-word ((c .before .before .before .before .before .before .before .before .before .before .before .before .args .label)) ((c .before .before .before .before .before .before .before .before .before .o3 .given .1)))) (and-then (room-as (text-word ((c .before .before .before .before .before .before .before .before .before .before .before .before .args .label)) ((c .before .before .before .before .before .before .before .before .before .o3 .given .1))) ((c .before .before .before .before .before .before .before .before .before .before .before .before .pre .1))) ((c .before .before .before .before .before .before .put-front .ensures)) ((c .before .before .put-word .ensures)))
+
+same-length-4 : tie.Need-same-length-4
+same-length-4 c = search needs
+
+returns-5 : tie.Need-returns-5
+returns-5 c = put-as (sym (text-dword ((c .before .before .before .before .before .before .before .before .before .before .before .before .args .label)) ((c .before .before .before .before .before .before .before .before .before .o4 .given .1)))) (and-then (room-as (text-dword ((c .before .before .before .before .before .before .before .before .before .before .before .before .args .label)) ((c .before .before .before .before .before .before .before .before .before .o4 .given .1))) ((c .before .before .before .before .before .before .before .before .before .before .before .before .pre .1))) ((c .before .before .before .before .before .before .put-front2 .ensures)) ((c .before .before .put-dword .ensures)))
+
+same-length-5 : tie.Need-same-length-5
+same-length-5 c = search needs
+
+returns-6 : tie.Need-returns-6
+returns-6 c = put-as (sym (text-bracket ((c .before .before .before .before .before .before .before .before .before .before .before .before .args .label)) ((c .before .before .before .before .before .before .before .before .before .o5 .given .1)))) (and-then (room-as (text-bracket ((c .before .before .before .before .before .before .before .before .before .before .before .before .args .label)) ((c .before .before .before .before .before .before .before .before .before .o5 .given .1))) ((c .before .before .before .before .before .before .before .before .before .before .before .before .pre .1))) ((c .before .before .before .before .before .before .put-front3 .ensures)) ((c .before .before .put-bracket .ensures)))
 
 pub put-operand-spec : {M : Type 1} → statement M
 put-operand-spec =
     tie.close
-    (tie.spec operand-at-requires labelled-memory-requires put-parted-requires same-length returns)
+    (tie.spec
+    enum-told
+    enum-known-o
+    put-register-requires
+    enum-known-o-2
+    put-numeral-requires
+    enum-known-o-3
+    put-front-requires
+    put-word-requires
+    enum-known-o-4
+    put-front-requires-2
+    put-dword-requires
+    enum-known-o-5
+    put-front-requires-3
+    put-bracket-requires
+    returns
+    same-length
+    returns-2
+    same-length-2
+    returns-3
+    same-length-3
+    returns-4
+    same-length-4
+    returns-5
+    same-length-5
+    returns-6)

@@ -1,88 +1,92 @@
--- `records::direct::put_operands` meets its contract: four puts, of which the last two put nothing where there are no more operands.
+-- `records::direct::put_operands` meets its contract. The loop's invariant: the operands from k on are all that is left to be put.
 -- Assumes nothing.
-use borrow.Author.Needs.{needs}
 use Rattle.records.proofs.direct.put_operands.Statement.{statement}
 use Rattle.records.proofs.direct.put_operands.Tie as tie
 use Rattle.records.proofs.direct.put_operands.Reads as reads
 use Rattle.records.proofs.direct.put_operands.Lts as lts
+use Rattle.bodies.proofs.numbers.byte_at.Reads as byte-at-reads
 use Rattle.bodies.proofs.numbers.dword_at.Reads as dword-at-reads
+use Rattle.bodies.proofs.parts.operand_at.Reads as operand-at-reads
 use Rattle.records.proofs.direct.put_operand.Reads as put-operand-reads
+use Rattle.records.proofs.direct.put_separator.Reads as put-separator-reads
 use denote.Ref.{now}
-use mathlib.Core.Path.{sym, _∙_}
+use borrow.Author.Needs.{needs}
+use mathlib.Core.Path.{_≡_, refl, sym, ap, _∙_}
 use mathlib.Core.List.{_++_}
-use Rattle.text.specs.Words.{bytes}
-use Rattle.text.proofs.Putting.{first, rest, and-then, room-as, put-as}
-use Rattle.bodies.specs.Decoding.{operandAt}
+use native.Mathlib.Omega.{arith}
+use Prim.Native.Nat.{ℕ, _-_}
+use lib.ListN.{length}
+use Rattle.text.proofs.Putting.{first, put-length, room-as, put-as, Left, left-all, left-next, left-none, left-as}
+use Rattle.operands.specs.declared.Operand.{Operand}
+use Rattle.bodies.specs.Body.{countOf}
 use Rattle.arms.specs.Parts.{labelledMemory}
-use Rattle.lines.specs.Text.{partedText, itemsText}
-use Rattle.records.proofs.Directly.{few-operands}
+use Rattle.items.specs.Items.{itemText}
+use Rattle.records.specs.Direct.{operandsFrom}
+use Rattle.records.proofs.Directly.{operands-next, operands-none}
 
-dword-at-requires : tie.Need-dword-at-requires
+abbrev Inv-loop : tie.InvT-loop
+Inv-loop text₀ at letters starts label body imm disp count k₀ next₀ text k next =
+    (Left text₀ at (operandsFrom (countOf body) 0 label body) text next (operandsFrom (countOf body - k) k label body))
+    × (length text ≡ length text₀)
+
+abbrev μ-loop : tie.MeasureT-loop
+μ-loop text₀ at letters starts label body imm disp count k₀ next₀ text k next = count - k
+
+dword-at-requires : tie.Need-dword-at-requires Inv-loop μ-loop
 dword-at-requires c κs = search needs
 
-dword-at-requires-2 : tie.Need-dword-at-requires-2
+dword-at-requires-2 : tie.Need-dword-at-requires-2 Inv-loop μ-loop
 dword-at-requires-2 c κs = search needs
 
-slice-aggregate-put-operand : tie.Need-slice-aggregate-put-operand
-slice-aggregate-put-operand c = search needs
+byte-at-requires : tie.Need-byte-at-requires Inv-loop μ-loop
+byte-at-requires c κs = search needs
 
-put-operand-requires : tie.Need-put-operand-requires
-unfolding itemsText
-put-operand-requires c κs = ((c .before .before .before .before .before .before .pre .0), ((c .before .before .before .before .before .before .pre .1 .0), ((c .before .before .before .dword-at .ensures), ((c .before .before .dword-at2 .ensures), first (partedText (bytes ", ") (labelledMemory ((c .before .before .before .before .before .before .args .label)) (operandAt (now ((c .before .before .before .before .before .before .args .body))) 1)) ++ (partedText (bytes ", ") (labelledMemory ((c .before .before .before .before .before .before .args .label)) (operandAt (now ((c .before .before .before .before .before .before .args .body))) 2)) ++ partedText (bytes ", ") (labelledMemory ((c .before .before .before .before .before .before .args .label)) (operandAt (now ((c .before .before .before .before .before .before .args .body))) 3)))) ((c .before .before .before .before .before .before .pre .1 .1))))))
+cast-count : tie.Need-cast-count Inv-loop μ-loop
+cast-count c = search needs
 
-slice-aggregate-put-operand-2 : tie.Need-slice-aggregate-put-operand-2
-slice-aggregate-put-operand-2 c = search needs
+loop-holds : tie.Need-loop-holds Inv-loop μ-loop
+loop-holds c = (left-as (ap (λ (m : ℕ). operandsFrom m 0 ((c .before .before .before .before .before .args .label)) (now ((c .before .before .before .before .before .args .body)))) (let e : (countOf (now ((c .before .before .before .before .before .args .body)))) ≡ (countOf (now ((c .before .before .before .before .before .args .body)))) - 0 = omega arith in e)) (left-all ((c .before .before .before .before .before .pre .1 .1))), refl)
 
-put-operand-requires-2 : tie.Need-put-operand-requires-2
-unfolding itemsText
-put-operand-requires-2 c κs = ((c .before .before .before .before .before .before .before .before .before .before .before .pre .0), ((c .before .before .before .before .before .before .before .before .before .before .before .pre .1 .0), ((c .before .before .before .before .before .before .before .before .dword-at .ensures), ((c .before .before .before .before .before .before .before .dword-at2 .ensures), first (partedText (bytes ", ") (labelledMemory ((c .before .before .before .before .before .before .before .before .before .before .before .args .label)) (operandAt (now ((c .before .before .before .before .before .before .before .before .before .before .before .args .body))) 2)) ++ partedText (bytes ", ") (labelledMemory ((c .before .before .before .before .before .before .before .before .before .before .before .args .label)) (operandAt (now ((c .before .before .before .before .before .before .before .before .before .before .before .args .body))) 3))) (rest ((c .before .before .before .before .before .before .before .before .before .before .before .pre .1 .1)) ((c .before .before .before .before .put-operand .ensures)))))))
+put-separator-requires : tie.Need-put-separator-requires Inv-loop μ-loop
+put-separator-requires c κs = first _ ((left-as (operands-next ((c .before .before .before .before .before .before .before .before .args .label)) (now ((c .before .before .before .before .before .before .before .before .args .body))) (countOf (now ((c .before .before .before .before .before .before .before .before .args .body)))) ((c .before .before .loop .k)) (omega (arith, (c .before .before .before .byte-at .ensures .0), (c .before .loop-test .taken)))) ((c .before .before .loop .inv .0))) .room)
 
-shared-slice-read-if1 : tie.Need-shared-slice-read-if1
-shared-slice-read-if1 c = search needs
+operand-at-requires : tie.Need-operand-at-requires Inv-loop μ-loop
+operand-at-requires c κs = ((c .before .before .before .before .before .before .before .before .before .before .before .before .pre .1 .0), ((c .before .before .before .before .before .before .before .before .before .dword-at .ensures), (c .before .before .before .before .before .before .before .before .dword-at2 .ensures)))
 
-same-length : tie.Need-same-length
-same-length c = search needs
+put-operand-requires : tie.Need-put-operand-requires Inv-loop μ-loop
+put-operand-requires c κs = ((c .before .before .before .before .before .before .before .before .before .before .before .before .before .pre .0), room-as (ap (λ (o : Operand). itemText (labelledMemory ((c .before .before .before .before .before .before .before .before .before .before .before .before .before .args .label)) o)) (sym ((c .operand-at .ensures)))) (first _ ((left-next (left-as (operands-next ((c .before .before .before .before .before .before .before .before .before .before .before .before .before .args .label)) (now ((c .before .before .before .before .before .before .before .before .before .before .before .before .before .args .body))) (countOf (now ((c .before .before .before .before .before .before .before .before .before .before .before .before .before .args .body)))) ((c .before .before .before .before .before .before .before .loop .k)) (omega (arith, (c .before .before .before .before .before .before .before .before .byte-at .ensures .0), (c .before .before .before .before .before .before .loop-test .taken)))) ((c .before .before .before .before .before .before .before .loop .inv .0))) ((c .before .before .before .before .put-separator .ensures))) .room)))
 
-returns : tie.Need-returns
-returns c = put-as (sym (few-operands ((c .before .before .before .before .before .before .before .before .before .before .before .before .before .before .before .before .args .label)) (now ((c .before .before .before .before .before .before .before .before .before .before .before .before .before .before .before .before .args .body))) ((c .if1 .taken)))) (and-then (room-as (few-operands ((c .before .before .before .before .before .before .before .before .before .before .before .before .before .before .before .before .args .label)) (now ((c .before .before .before .before .before .before .before .before .before .before .before .before .before .before .before .before .args .body))) ((c .if1 .taken))) ((c .before .before .before .before .before .before .before .before .before .before .before .before .before .before .before .before .pre .1 .1))) ((c .before .before .before .before .before .before .before .before .before .put-operand .ensures)) ((c .before .before .before .before .put-operand2 .ensures)))
+add-k : tie.Need-add-k Inv-loop μ-loop
+add-k c = omega (arith, (c .before .before .before .before .before .before .before .before .before .before .before .byte-at .ensures .1), (c .before .before .before .before .before .before .before .before .before .loop-test .taken))
 
-slice-aggregate-put-operand-3 : tie.Need-slice-aggregate-put-operand-3
-slice-aggregate-put-operand-3 c = search needs
+loop-less : tie.Need-loop-less Inv-loop μ-loop
+loop-less c = omega (arith, (c .before .before .before .before .before .before .before .before .before .loop-test .taken))
 
-put-operand-requires-3 : tie.Need-put-operand-requires-3
-unfolding itemsText
-put-operand-requires-3 c κs = ((c .before .before .before .before .before .before .before .before .before .before .before .before .before .before .before .before .before .before .pre .0), ((c .before .before .before .before .before .before .before .before .before .before .before .before .before .before .before .before .before .before .pre .1 .0), ((c .before .before .before .before .before .before .before .before .before .before .before .before .before .before .before .dword-at .ensures), ((c .before .before .before .before .before .before .before .before .before .before .before .before .before .before .dword-at2 .ensures), first (partedText (bytes ", ") (labelledMemory ((c .before .before .before .before .before .before .before .before .before .before .before .before .before .before .before .before .before .before .args .label)) (operandAt (now ((c .before .before .before .before .before .before .before .before .before .before .before .before .before .before .before .before .before .before .args .body))) 3))) (rest (rest ((c .before .before .before .before .before .before .before .before .before .before .before .before .before .before .before .before .before .before .pre .1 .1)) ((c .before .before .before .before .before .before .before .before .before .before .before .put-operand .ensures))) ((c .before .before .before .before .before .before .put-operand2 .ensures)))))))
+loop-again : tie.Need-loop-again Inv-loop μ-loop
+loop-again c = (left-next (left-next (left-as (operands-next ((c .before .before .before .before .before .before .before .before .before .before .before .before .before .before .before .before .args .label)) (now ((c .before .before .before .before .before .before .before .before .before .before .before .before .before .before .before .before .args .body))) (countOf (now ((c .before .before .before .before .before .before .before .before .before .before .before .before .before .before .before .before .args .body)))) ((c .before .before .before .before .before .before .before .before .before .before .loop .k)) (omega (arith, (c .before .before .before .before .before .before .before .before .before .before .before .byte-at .ensures .0), (c .before .before .before .before .before .before .before .before .before .loop-test .taken)))) ((c .before .before .before .before .before .before .before .before .before .before .loop .inv .0))) ((c .before .before .before .before .before .before .before .put-separator .ensures))) (put-as (ap (λ (o : Operand). itemText (labelledMemory ((c .before .before .before .before .before .before .before .before .before .before .before .before .before .before .before .before .args .label)) o)) ((c .before .before .before .operand-at .ensures))) ((c .before .before .put-operand .ensures))), put-length (first _ ((left-next (left-as (operands-next ((c .before .before .before .before .before .before .before .before .before .before .before .before .before .before .before .before .args .label)) (now ((c .before .before .before .before .before .before .before .before .before .before .before .before .before .before .before .before .args .body))) (countOf (now ((c .before .before .before .before .before .before .before .before .before .before .before .before .before .before .before .before .args .body)))) ((c .before .before .before .before .before .before .before .before .before .before .loop .k)) (omega (arith, (c .before .before .before .before .before .before .before .before .before .before .before .byte-at .ensures .0), (c .before .before .before .before .before .before .before .before .before .loop-test .taken)))) ((c .before .before .before .before .before .before .before .before .before .before .loop .inv .0))) ((c .before .before .before .before .before .before .before .put-separator .ensures))) .room)) (put-as (ap (λ (o : Operand). itemText (labelledMemory ((c .before .before .before .before .before .before .before .before .before .before .before .before .before .before .before .before .args .label)) o)) ((c .before .before .before .operand-at .ensures))) ((c .before .before .put-operand .ensures))) ∙ (put-length (first _ ((left-as (operands-next ((c .before .before .before .before .before .before .before .before .before .before .before .before .before .before .before .before .args .label)) (now ((c .before .before .before .before .before .before .before .before .before .before .before .before .before .before .before .before .args .body))) (countOf (now ((c .before .before .before .before .before .before .before .before .before .before .before .before .before .before .before .before .args .body)))) ((c .before .before .before .before .before .before .before .before .before .before .loop .k)) (omega (arith, (c .before .before .before .before .before .before .before .before .before .before .before .byte-at .ensures .0), (c .before .before .before .before .before .before .before .before .before .loop-test .taken)))) ((c .before .before .before .before .before .before .before .before .before .before .loop .inv .0))) .room)) ((c .before .before .before .before .before .before .before .put-separator .ensures)) ∙ (c .before .before .before .before .before .before .before .before .before .before .loop .inv .1)))
 
-slice-aggregate-put-operand-4 : tie.Need-slice-aggregate-put-operand-4
-slice-aggregate-put-operand-4 c = search needs
+same-length : tie.Need-same-length Inv-loop μ-loop
+same-length c = (c .before .loop .inv .1)
 
-put-operand-requires-4 : tie.Need-put-operand-requires-4
-unfolding itemsText
-put-operand-requires-4 c κs = ((c .before .before .before .before .before .before .before .before .before .before .before .before .before .before .before .before .before .before .before .before .before .before .before .pre .0), ((c .before .before .before .before .before .before .before .before .before .before .before .before .before .before .before .before .before .before .before .before .before .before .before .pre .1 .0), ((c .before .before .before .before .before .before .before .before .before .before .before .before .before .before .before .before .before .before .before .before .dword-at .ensures), ((c .before .before .before .before .before .before .before .before .before .before .before .before .before .before .before .before .before .before .before .dword-at2 .ensures), rest (rest (rest ((c .before .before .before .before .before .before .before .before .before .before .before .before .before .before .before .before .before .before .before .before .before .before .before .pre .1 .1)) ((c .before .before .before .before .before .before .before .before .before .before .before .before .before .before .before .before .put-operand .ensures))) ((c .before .before .before .before .before .before .before .before .before .before .before .put-operand2 .ensures))) ((c .before .before .before .before .put-operand3 .ensures))))))
-
-same-length-2 : tie.Need-same-length-2
-same-length-2 c = search needs
-
-returns-2 : tie.Need-returns-2
-unfolding itemsText
-returns-2 c = and-then ((c .before .before .before .before .before .before .before .before .before .before .before .before .before .before .before .before .before .before .before .before .before .before .before .before .before .before .pre .1 .1)) ((c .before .before .before .before .before .before .before .before .before .before .before .before .before .before .before .before .before .before .before .put-operand .ensures)) (and-then (rest ((c .before .before .before .before .before .before .before .before .before .before .before .before .before .before .before .before .before .before .before .before .before .before .before .before .before .before .pre .1 .1)) ((c .before .before .before .before .before .before .before .before .before .before .before .before .before .before .before .before .before .before .before .put-operand .ensures))) ((c .before .before .before .before .before .before .before .before .before .before .before .before .before .before .put-operand2 .ensures)) (and-then (rest (rest ((c .before .before .before .before .before .before .before .before .before .before .before .before .before .before .before .before .before .before .before .before .before .before .before .before .before .before .pre .1 .1)) ((c .before .before .before .before .before .before .before .before .before .before .before .before .before .before .before .before .before .before .before .put-operand .ensures))) ((c .before .before .before .before .before .before .before .before .before .before .before .before .before .before .put-operand2 .ensures))) ((c .before .before .before .before .before .before .before .put-operand3 .ensures)) ((c .before .before .put-operand4 .ensures))))
+returns : tie.Need-returns Inv-loop μ-loop
+returns c = left-none (left-as (operands-none ((c .before .before .before .before .before .before .before .args .label)) (now ((c .before .before .before .before .before .before .before .args .body))) (countOf (now ((c .before .before .before .before .before .before .before .args .body)))) ((c .before .loop .k)) (omega (arith, (c .before .before .byte-at .ensures .0), (c .loop-test .left)))) ((c .before .loop .inv .0)))
 
 pub put-operands-spec : {M : Type 1} → statement M
 put-operands-spec =
     tie.close
     (tie.spec
+    Inv-loop
+    μ-loop
     dword-at-requires
     dword-at-requires-2
-    slice-aggregate-put-operand
+    byte-at-requires
+    cast-count
+    loop-holds
+    put-separator-requires
+    operand-at-requires
     put-operand-requires
-    slice-aggregate-put-operand-2
-    put-operand-requires-2
-    shared-slice-read-if1
+    add-k
+    loop-less
+    loop-again
     same-length
-    returns
-    slice-aggregate-put-operand-3
-    put-operand-requires-3
-    slice-aggregate-put-operand-4
-    put-operand-requires-4
-    same-length-2
-    returns-2)
+    returns)

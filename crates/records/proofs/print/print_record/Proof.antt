@@ -1,61 +1,92 @@
--- `records::print::print_record` meets its contract: where no line is longer than the room, most records are printed straight.
+-- `records::print::print_record` meets its contract: each case of `judge` is an answer, and a line is printed where it fits.
 -- Assumes nothing.
+use mathlib.Core.Path.{sym, _∙_}
+use mathlib.Core.List.{[], _∷_}
 use borrow.Author.Needs.{needs}
+use denote.Ref.{now}
 use Rattle.records.proofs.print.print_record.Statement.{statement}
 use Rattle.records.proofs.print.print_record.Tie as tie
-use Rattle.records.proofs.print.print_record.Reads as reads
-use Rattle.records.proofs.print.print_record.Lts as lts
-use Rattle.records.proofs.direct.is_by_line.Reads as is-by-line-reads
-use Rattle.records.proofs.direct.put_direct.Reads as put-direct-reads
-use Rattle.records.proofs.direct.way_of.Reads as way-of-reads
-use Rattle.records.proofs.print.print_judged.Reads as print-judged-reads
-use denote.Ref.{now}
-use mathlib.Core.Path.{sym, _∙_}
-use native.Mathlib.Omega.{arith}
-use Rattle.lines.specs.Text.{lineText}
-use Rattle.lines.proofs.Short.{line-short}
-use Rattle.records.specs.Records.{lineAt, recordText}
-use Rattle.records.proofs.Judging.{shown-outcome}
-use Rattle.records.proofs.Outcomes.{text-printed, gives-as}
-use Rattle.records.proofs.Directly.{direct-shown}
-use mathlib.Core.Path.{sym, _∙_}
-use borrow.Author.Tests.{not-true}
+use Rattle.records.proofs.Judging.{lowest-at, shown-outcome}
+use Rattle.records.proofs.Outcomes.{gives-mode, gives-length, gives-field, gives-shape, gives-size, gives-as}
+use Rattle.records.specs.Answers.{roomRefused}
+use Rattle.records.specs.Records.{recordText, recordOutcome}
 
-way-of-requires : tie.Need-way-of-requires
-way-of-requires c κs = search needs
+judge-requires : tie.Need-judge-requires
+judge-requires c κs = search needs
 
-is-by-line-requires : tie.Need-is-by-line-requires
-is-by-line-requires c κs = search needs
+enum-told : tie.Need-enum-told
+enum-told c = search needs
 
-put-direct-requires : tie.Need-put-direct-requires
-unfolding recordText
-put-direct-requires c κs = ((c .before .before .before .before .before .before .before .pre .0), ((c .before .before .before .before .before .before .before .pre .1 .0), ((c .before .before .before .way-of .ensures), (sym ((c .before .before .is-by-line .ensures)) ∙ not-true ((c .before .before .is-by-line .result)) ((c .before .if2 .taken)), record { fits = omega (arith, (c .before .before .before .before .if1 .taken), line-short (lineAt ((c .before .before .before .before .before .before .before .args .mode)) (now ((c .before .before .before .before .before .before .before .args .body))))) }))))
+enum-told-2 : tie.Need-enum-told-2
+enum-told-2 c = search needs
+
+enum-told-3 : tie.Need-enum-told-3
+enum-told-3 c = search needs
+
+enum-told-4 : tie.Need-enum-told-4
+enum-told-4 c = search needs
+
+enum-told-5 : tie.Need-enum-told-5
+enum-told-5 c = search needs
+
+enum-known-line : tie.Need-enum-known-line
+enum-known-line c = search needs
+
+print-line-requires : tie.Need-print-line-requires
+print-line-requires c κs = search needs
+
+returns : tie.Need-returns
+unfolding recordOutcome
+returns c =
+    let text = recordText (c .before .before .before .before .before .args .mode) (now (c .before .before .before .before .before .args .body)) in
+    gives-mode text (now (c .before .before .before .before .before .args .text)) (lowest-at (c .before .before .before .before .before .args .mode) (now (c .before .before .before .before .before .args .body)) (roomRefused text (now (c .before .before .before .before .before .args .text)) ∷ []) (sym (c .before .before .judge .ensures) ∙ (c .enum-told .given .1)))
+
+returns-2 : tie.Need-returns-2
+unfolding recordOutcome
+returns-2 c =
+    let text = recordText (c .before .before .before .before .before .args .mode) (now (c .before .before .before .before .before .args .body)) in
+    gives-length text (now (c .before .before .before .before .before .args .text)) (lowest-at (c .before .before .before .before .before .args .mode) (now (c .before .before .before .before .before .args .body)) (roomRefused text (now (c .before .before .before .before .before .args .text)) ∷ []) (sym (c .before .before .judge .ensures) ∙ (c .enum-told2 .given .1)))
+
+returns-3 : tie.Need-returns-3
+unfolding recordOutcome
+returns-3 c =
+    let text = recordText (c .before .before .before .before .before .args .mode) (now (c .before .before .before .before .before .args .body)) in
+    gives-field text (now (c .before .before .before .before .before .args .text)) (lowest-at (c .before .before .before .before .before .args .mode) (now (c .before .before .before .before .before .args .body)) (roomRefused text (now (c .before .before .before .before .before .args .text)) ∷ []) (sym (c .before .before .judge .ensures) ∙ (c .enum-told3 .given .1)))
+
+returns-4 : tie.Need-returns-4
+unfolding recordOutcome
+returns-4 c =
+    let text = recordText (c .before .before .before .before .before .args .mode) (now (c .before .before .before .before .before .args .body)) in
+    gives-shape text (now (c .before .before .before .before .before .args .text)) (lowest-at (c .before .before .before .before .before .args .mode) (now (c .before .before .before .before .before .args .body)) (roomRefused text (now (c .before .before .before .before .before .args .text)) ∷ []) (sym (c .before .before .judge .ensures) ∙ (c .enum-told4 .given .1)))
+
+returns-5 : tie.Need-returns-5
+unfolding recordOutcome
+returns-5 c =
+    let text = recordText (c .before .before .before .before .before .args .mode) (now (c .before .before .before .before .before .args .body)) in
+    gives-size text (now (c .before .before .before .before .before .args .text)) (lowest-at (c .before .before .before .before .before .args .mode) (now (c .before .before .before .before .before .args .body)) (roomRefused text (now (c .before .before .before .before .before .args .text)) ∷ []) (sym (c .before .before .judge .ensures) ∙ (c .enum-told5 .given .1)))
 
 same-length : tie.Need-same-length
 same-length c = search needs
 
-returns : tie.Need-returns
-unfolding recordText
-returns c = gives-as (sym (shown-outcome ((c .before .before .before .before .before .before .before .before .before .before .args .mode)) (now ((c .before .before .before .before .before .before .before .before .before .before .args .body))) (now ((c .before .before .before .before .before .before .before .before .before .before .args .text))) (lineAt ((c .before .before .before .before .before .before .before .before .before .before .args .mode)) (now ((c .before .before .before .before .before .before .before .before .before .before .args .body)))) (direct-shown ((c .before .before .before .before .before .before .before .before .before .before .args .mode)) (now ((c .before .before .before .before .before .before .before .before .before .before .args .body))) ((c .before .before .before .before .before .before .way-of .result)) ((c .before .before .before .before .before .before .way-of .ensures)) (sym ((c .before .before .before .before .before .is-by-line .ensures)) ∙ not-true ((c .before .before .before .before .before .is-by-line .result)) ((c .before .before .before .before .if2 .taken)))))) (text-printed (lineText (lineAt ((c .before .before .before .before .before .before .before .before .before .before .args .mode)) (now ((c .before .before .before .before .before .before .before .before .before .before .args .body))))) (omega (arith, (c .before .before .before .before .before .before .before .if1 .taken), line-short (lineAt ((c .before .before .before .before .before .before .before .before .before .before .args .mode)) (now ((c .before .before .before .before .before .before .before .before .before .before .args .body)))))) ((c .before .before .put-direct .ensures)))
-
-print-judged-requires : tie.Need-print-judged-requires
-print-judged-requires c κs = search needs
-
-same-length-2 : tie.Need-same-length-2
-same-length-2 c = search needs
-
-returns-2 : tie.Need-returns-2
-returns-2 c = search needs
+returns-6 : tie.Need-returns-6
+returns-6 c = gives-as (sym (shown-outcome (c .before .before .before .before .before .before .before .before .before .before .args .mode) (now (c .before .before .before .before .before .before .before .before .before .before .args .body)) (now (c .before .before .before .before .before .before .before .before .before .before .args .text)) ((c .before .before .before .before .before .line .given .0 .0)) (sym (c .before .before .before .before .before .before .before .judge .ensures) ∙ (c .before .before .before .before .before .line .given .1)))) (c .before .before .print-line .ensures)
 
 pub print-record-spec : {M : Type 1} → statement M
 print-record-spec =
     tie.close
     (tie.spec
-    way-of-requires
-    is-by-line-requires
-    put-direct-requires
-    same-length
+    judge-requires
+    enum-told
+    enum-told-2
+    enum-told-3
+    enum-told-4
+    enum-told-5
+    enum-known-line
+    print-line-requires
     returns
-    print-judged-requires
-    same-length-2
-    returns-2)
+    returns-2
+    returns-3
+    returns-4
+    returns-5
+    same-length
+    returns-6)
