@@ -15,6 +15,7 @@ use names::mnemonics;
 use names::registers;
 use records::Judged;
 use records::direct;
+use records::ways;
 
 fn put_refused(text: &mut [u8], at: usize, n: u8) -> usize
     requires { ⌜ n ≤ 9 ⌝ }
@@ -105,8 +106,8 @@ pub fn put_record_line(
     requires { ⌜ Room (now text) at (recordLine mode (now body)) ⌝ }
     ensures { λ r. ⌜ Put (now (text .entry)) at (recordLine mode (now (body .entry))) r (now (text .exit)) ⌝ }
 {
-    let way = direct::way_of(arms, body, mode);
-    if direct::is_by_line(way) {
+    let way = ways::way_of(arms, body, mode);
+    if ways::is_by_line(way) {
         return put_judged(
             name_letters,
             name_starts,

@@ -16,7 +16,7 @@ use Rattle.arrange.specs.declared.Line.{Line}
 use Rattle.arrange.specs.declared.Arranged.the-variants.{Shape as ShapeRefused, Size as SizeRefused, Shown as LineShown}
 use Rattle.operands.specs.declared.Instruction.{Instruction}
 use Rattle.lines.specs.Text.{lineText}
-use Rattle.records.specs.Answers.{lowest, roomRefused, outcomeOf, textOutcome}
+use Rattle.records.specs.Answers.{lowest, roomRefused, textOutcome}
 use Rattle.records.specs.Records.{modeRefused, straight, armAt, refusals, lineAt, recordText, recordOutcome}
 use Rattle.records.specs.Judged.{judgedAs, judged}
 use Rattle.records.specs.declared.Judged.{Judged}

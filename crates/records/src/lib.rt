@@ -2,6 +2,7 @@
 pub mod direct;
 pub mod judge;
 pub mod print;
+pub mod ways;
 
 use arrange::Line;
 

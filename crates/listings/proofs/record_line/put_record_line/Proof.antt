@@ -3,19 +3,12 @@
 use borrow.Author.Needs.{needs}
 use Rattle.listings.proofs.record_line.put_record_line.Statement.{statement}
 use Rattle.listings.proofs.record_line.put_record_line.Tie as tie
-use Rattle.listings.proofs.record_line.put_record_line.Reads as reads
-use Rattle.listings.proofs.record_line.put_record_line.Lts as lts
-use Rattle.listings.proofs.record_line.put_judged.Reads as put-judged-reads
-use Rattle.records.proofs.direct.is_by_line.Reads as is-by-line-reads
-use Rattle.records.proofs.direct.put_direct.Reads as put-direct-reads
-use Rattle.records.proofs.direct.way_of.Reads as way-of-reads
-use Rattle.text.proofs.put_byte.Reads as put-byte-reads
 use denote.Ref.{now}
 use mathlib.Core.Path.{sym, _∙_}
 use Rattle.text.proofs.Putting.{first, rest, and-then, room-as, put-as}
 use Rattle.records.specs.Records.{lineAt, recordText}
 use Rattle.records.specs.declared.Judged.the-variants.{Shown}
-use Rattle.records.proofs.Directly.{direct-shown}
+use Rattle.records.proofs.Chosen.{direct-shown}
 use Rattle.listings.specs.Lines.{newline}
 use Rattle.listings.proofs.Answered.{line-by}
 

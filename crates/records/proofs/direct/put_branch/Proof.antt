@@ -3,16 +3,6 @@
 use borrow.Author.Needs.{needs}
 use Rattle.records.proofs.direct.put_branch.Statement.{statement}
 use Rattle.records.proofs.direct.put_branch.Tie as tie
-use Rattle.records.proofs.direct.put_branch.Reads as reads
-use Rattle.records.proofs.direct.put_branch.Lts as lts
-use Rattle.arms.proofs.parts.bare_item.Reads as bare-item-reads
-use Rattle.arrange.proofs.heads.head_of.Reads as head-of-reads
-use Rattle.bodies.proofs.numbers.dword_at.Reads as dword-at-reads
-use Rattle.bodies.proofs.numbers.immediate_of.Reads as immediate-of-reads
-use Rattle.bodies.proofs.numbers.word_at.Reads as word-at-reads
-use Rattle.branches.proofs.branch_shown.Reads as branch-shown-reads
-use Rattle.lines.proofs.head.put_head.Reads as put-head-reads
-use Rattle.lines.proofs.shown.put_parted.Reads as put-parted-reads
 use denote.Ref.{now}
 use mathlib.Core.Path.{sym, ap, ap₂, _∙_}
 use mathlib.Core.List.{_++_}
@@ -29,7 +19,8 @@ use Rattle.arms.specs.declared.Arm.the-variants.{Branch}
 use Rattle.arrange.specs.Head.{headOf}
 use Rattle.arrange.specs.declared.Head.{Head}
 use Rattle.lines.specs.Text.{partedText, headText}
-use Rattle.records.proofs.Directly.{branch-counted, branch-text}
+use Rattle.records.proofs.ByKind.{branch-counted}
+use Rattle.records.proofs.Directly.{branch-text}
 
 shared-slice-read-kind : tie.Need-shared-slice-read-kind
 shared-slice-read-kind c = omega (arith, (c .before .before .before .pre .1 .1 .0 .stored), branch-counted (now ((c .before .before .before .args .body))) ((c .before .before .before .pre .1 .1 .1 .0)))

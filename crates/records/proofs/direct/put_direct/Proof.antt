@@ -3,17 +3,13 @@
 use borrow.Author.Needs.{needs}
 use Rattle.records.proofs.direct.put_direct.Statement.{statement}
 use Rattle.records.proofs.direct.put_direct.Tie as tie
-use Rattle.records.proofs.direct.put_direct.Reads as reads
-use Rattle.records.proofs.direct.put_direct.Lts as lts
-use Rattle.records.proofs.direct.put_branch.Reads as put-branch-reads
-use Rattle.records.proofs.direct.put_general.Reads as put-general-reads
 use denote.Ref.{now}
 use mathlib.Core.Path.{sym, ap, _∙_}
 use mathlib.Core.Bool.{true≢false}
 use Rattle.bodies.specs.Decoding.{instructionOf}
 use Rattle.records.specs.Direct.{isByLine}
 use Rattle.text.proofs.Putting.{room-as, put-as}
-use Rattle.records.proofs.Directly.{general-direct, branch-direct, branch-known, text-general, text-branch}
+use Rattle.records.proofs.Chosen.{general-direct, branch-direct, branch-known, text-general, text-branch}
 
 enum-told : tie.Need-enum-told
 enum-told c = search needs

@@ -3,18 +3,8 @@
 use borrow.Author.Needs.{needs}
 use Rattle.records.proofs.direct.put_front.Statement.{statement}
 use Rattle.records.proofs.direct.put_front.Tie as tie
-use Rattle.records.proofs.direct.put_front.Reads as reads
-use Rattle.records.proofs.direct.put_front.Lts as lts
-use Rattle.items.proofs.label.put_label.Reads as put-label-reads
-use Rattle.items.proofs.label.put_segment.Reads as put-segment-reads
-use mathlib.Core.Path.{_≡_, _∙_}
-use mathlib.Core.List.{_++_}
-use Prim.Native.Nat.{_-_}
 use Rattle.text.proofs.Putting.{first, rest, and-then}
 use Rattle.items.specs.Labels.{segmentText}
-use mathlib.Core.Path.{_≡_, _∙_}
-use Prim.Native.Nat.{_-_}
-use Rattle.text.proofs.Putting.{first, rest, and-then}
 
 put-label-requires : tie.Need-put-label-requires
 put-label-requires c κs = first (segmentText ((c .before .before .args .segment))) ((c .before .before .pre))

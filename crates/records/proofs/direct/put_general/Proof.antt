@@ -3,30 +3,18 @@
 use borrow.Author.Needs.{needs}
 use Rattle.records.proofs.direct.put_general.Statement.{statement}
 use Rattle.records.proofs.direct.put_general.Tie as tie
-use Rattle.records.proofs.direct.put_general.Reads as reads
-use Rattle.records.proofs.direct.put_general.Lts as lts
-use Rattle.arms.proofs.general.general_label.Reads as general-label-reads
-use Rattle.arrange.proofs.heads.head_of.Reads as head-of-reads
-use Rattle.bodies.proofs.numbers.word_at.Reads as word-at-reads
-use Rattle.lines.proofs.head.put_head.Reads as put-head-reads
-use Rattle.records.proofs.direct.put_operands.Reads as put-operands-reads
 use denote.Ref.{now}
 use mathlib.Core.Path.{sym, ap, ap₂, _∙_}
 use mathlib.Core.List.{_++_}
 use Prim.Native.Nat.{ℕ}
 use Rattle.text.proofs.Putting.{first, rest, and-then, room-as, put-as}
 use Rattle.operands.specs.declared.Label.{Label}
-use Rattle.bodies.specs.Body.{byte}
+use Rattle.bodies.specs.Body.{byte, countOf}
 use Rattle.arms.specs.declared.Arm.the-variants.{General}
 use Rattle.arrange.specs.Head.{headOf}
 use Rattle.arrange.specs.declared.Head.{Head}
 use Rattle.lines.specs.Text.{headText}
 use Rattle.records.proofs.Directly.{general-text}
-use mathlib.Core.Path.{_≡_, sym, ap, ap₂, _∙_}
-use Prim.Native.Nat.{ℕ, _-_}
-use Rattle.text.proofs.Putting.{first, rest, and-then, room-as, put-as}
-use Rattle.bodies.specs.Body.{byte, countOf}
-use Rattle.lines.specs.Text.{headText}
 use Rattle.records.specs.Direct.{operandsFrom}
 
 word-at-requires : tie.Need-word-at-requires

@@ -3,22 +3,9 @@
 use borrow.Author.Needs.{needs}
 use Rattle.records.proofs.direct.put_operand.Statement.{statement}
 use Rattle.records.proofs.direct.put_operand.Tie as tie
-use Rattle.records.proofs.direct.put_operand.Reads as reads
-use Rattle.records.proofs.direct.put_operand.Lts as lts
-use Rattle.items.proofs.bracket.put_bracket.Reads as put-bracket-reads
-use Rattle.items.proofs.item.put_dword.Reads as put-dword-reads
-use Rattle.items.proofs.item.put_word.Reads as put-word-reads
-use Rattle.names.proofs.registers.put_register.Reads as put-register-reads
-use Rattle.numerals.proofs.numeral.put_numeral.Reads as put-numeral-reads
-use Rattle.records.proofs.direct.put_front.Reads as put-front-reads
-use mathlib.Core.Path.{_≡_, sym, _∙_}
-use mathlib.Core.List.{_++_}
-use Prim.Native.Nat.{_-_}
+use mathlib.Core.Path.{sym}
 use Rattle.text.proofs.Putting.{first, rest, and-then, put-none, room-as, put-as}
 use Rattle.records.proofs.Directly.{text-absent, text-register, text-number, text-word, text-dword, text-bracket}
-use mathlib.Core.Path.{_≡_, sym, _∙_}
-use Prim.Native.Nat.{_-_}
-use Rattle.text.proofs.Putting.{first, rest, and-then, put-none, room-as, put-as}
 
 enum-told : tie.Need-enum-told
 enum-told c = search needs

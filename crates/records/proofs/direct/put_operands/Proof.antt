@@ -2,17 +2,9 @@
 -- Assumes nothing.
 use Rattle.records.proofs.direct.put_operands.Statement.{statement}
 use Rattle.records.proofs.direct.put_operands.Tie as tie
-use Rattle.records.proofs.direct.put_operands.Reads as reads
-use Rattle.records.proofs.direct.put_operands.Lts as lts
-use Rattle.bodies.proofs.numbers.byte_at.Reads as byte-at-reads
-use Rattle.bodies.proofs.numbers.dword_at.Reads as dword-at-reads
-use Rattle.bodies.proofs.parts.operand_at.Reads as operand-at-reads
-use Rattle.records.proofs.direct.put_operand.Reads as put-operand-reads
-use Rattle.records.proofs.direct.put_separator.Reads as put-separator-reads
 use denote.Ref.{now}
 use borrow.Author.Needs.{needs}
 use mathlib.Core.Path.{_≡_, refl, sym, ap, _∙_}
-use mathlib.Core.List.{_++_}
 use native.Mathlib.Omega.{arith}
 use Prim.Native.Nat.{ℕ, _-_}
 use lib.ListN.{length}

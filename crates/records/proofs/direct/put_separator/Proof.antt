@@ -3,18 +3,9 @@
 use borrow.Author.Needs.{needs}
 use Rattle.records.proofs.direct.put_separator.Statement.{statement}
 use Rattle.records.proofs.direct.put_separator.Tie as tie
-use Rattle.records.proofs.direct.put_separator.Reads as reads
-use Rattle.records.proofs.direct.put_separator.Lts as lts
-use Rattle.text.proofs.put_byte.Reads as put-byte-reads
-use Rattle.text.proofs.put_bytes.Reads as put-bytes-reads
-use mathlib.Core.Path.{_≡_, sym, _∙_}
-use mathlib.Core.List.{_++_}
-use Prim.Native.Nat.{_-_}
+use mathlib.Core.Path.{sym}
 use Rattle.text.proofs.Putting.{room-as, put-as}
 use Rattle.records.proofs.Directly.{separator-first, separator-later}
-use mathlib.Core.Path.{_≡_, sym, _∙_}
-use Prim.Native.Nat.{_-_}
-use Rattle.text.proofs.Putting.{room-as, put-as}
 
 put-byte-requires : tie.Need-put-byte-requires
 put-byte-requires c κs = room-as (separator-first ((c .before .before .before .args .k)) ((c .before .if1 .taken))) ((c .before .before .before .pre))

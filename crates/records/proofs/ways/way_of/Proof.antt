@@ -1,15 +1,8 @@
--- `records::direct::way_of` meets its contract: refusals first, then the arm.
+-- `records::ways::way_of` meets its contract: refusals first, then the arm.
 -- Assumes nothing.
 use borrow.Author.Needs.{needs}
-use Rattle.records.proofs.direct.way_of.Statement.{statement}
-use Rattle.records.proofs.direct.way_of.Tie as tie
-use Rattle.records.proofs.direct.way_of.Reads as reads
-use Rattle.records.proofs.direct.way_of.Lts as lts
-use Rattle.arms.proofs.table.arm_of.Reads as arm-of-reads
-use Rattle.bodies.proofs.numbers.word_at.Reads as word-at-reads
-use Rattle.bodies.proofs.rules.field_refused.Reads as field-refused-reads
-use Rattle.bodies.proofs.rules.length_refused.Reads as length-refused-reads
-use Rattle.records.proofs.direct.arm_way.Reads as arm-way-reads
+use Rattle.records.proofs.ways.way_of.Statement.{statement}
+use Rattle.records.proofs.ways.way_of.Tie as tie
 use denote.Ref.{now}
 use mathlib.Core.Path.{sym, ap, _∙_}
 use native.Mathlib.Omega.{arith}
@@ -17,7 +10,7 @@ use borrow.Author.Tests.{lt-ltb, le-ltb}
 use Rattle.bodies.specs.Decoding.{instructionOf}
 use Rattle.arms.specs.Arms.{armOf}
 use Rattle.bodies.proofs.Lengths.{whole}
-use Rattle.records.proofs.Directly.{way-mode, way-length, way-field, way-by-arm}
+use Rattle.records.proofs.Chosen.{way-mode, way-length, way-field, way-by-arm}
 
 returns : tie.Need-returns
 returns c = sym (way-mode ((c .before .before .args .mode)) (now ((c .before .before .args .body))) (lt-ltb 1 ((c .before .before .args .mode)) ((c .if1 .taken))))

@@ -1,15 +1,12 @@
--- `records::direct::is_memory_at` meets its contract: memory has the kinds from 9 up.
+-- `records::ways::is_memory_at` meets its contract: memory has the kinds from 9 up.
 -- Assumes nothing.
 use borrow.Author.Needs.{needs}
-use Rattle.records.proofs.direct.is_memory_at.Statement.{statement}
-use Rattle.records.proofs.direct.is_memory_at.Tie as tie
-use Rattle.records.proofs.direct.is_memory_at.Reads as reads
-use Rattle.records.proofs.direct.is_memory_at.Lts as lts
-use Rattle.bodies.proofs.numbers.byte_at.Reads as byte-at-reads
+use Rattle.records.proofs.ways.is_memory_at.Statement.{statement}
+use Rattle.records.proofs.ways.is_memory_at.Tie as tie
 use denote.Ref.{now}
-use mathlib.Core.Path.{sym, _∙_}
+use mathlib.Core.Path.{sym}
 use native.Mathlib.Omega.{arith}
-use Rattle.records.proofs.Directly.{memory-there, memory-none}
+use Rattle.records.proofs.ByKind.{memory-there, memory-none}
 
 byte-at-requires : tie.Need-byte-at-requires
 byte-at-requires c κs = search needs

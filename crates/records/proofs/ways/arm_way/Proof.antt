@@ -1,12 +1,8 @@
--- `records::direct::arm_way` meets its contract: two arms have a way of their own.
+-- `records::ways::arm_way` meets its contract: two arms have a way of their own.
 -- Assumes nothing.
 use borrow.Author.Needs.{needs}
-use Rattle.records.proofs.direct.arm_way.Statement.{statement}
-use Rattle.records.proofs.direct.arm_way.Tie as tie
-use Rattle.records.proofs.direct.arm_way.Reads as reads
-use Rattle.records.proofs.direct.arm_way.Lts as lts
-use Rattle.records.proofs.direct.branch_way.Reads as branch-way-reads
-use Rattle.records.proofs.direct.general_way.Reads as general-way-reads
+use Rattle.records.proofs.ways.arm_way.Statement.{statement}
+use Rattle.records.proofs.ways.arm_way.Tie as tie
 use denote.Ref.{now}
 use mathlib.Core.Path.{sym, ap, _∙_}
 use mathlib.Core.Bool.{false, _||_}
@@ -17,7 +13,7 @@ use Rattle.arms.specs.declared.Arm.the-variants.{General, Branch}
 use Rattle.arrange.specs.Among.{same}
 use Rattle.arrange.proofs.Groups.{of-group, others}
 use Rattle.records.specs.Direct.{armWay}
-use Rattle.records.proofs.Directly.{way-other}
+use Rattle.records.proofs.Chosen.{way-other}
 
 enum-told : tie.Need-enum-told
 enum-told c = search needs

@@ -1,12 +1,8 @@
--- `records::direct::has_memory` meets its contract.
+-- `records::ways::has_memory` meets its contract.
 -- Assumes nothing.
 use borrow.Author.Needs.{needs}
-use Rattle.records.proofs.direct.has_memory.Statement.{statement}
-use Rattle.records.proofs.direct.has_memory.Tie as tie
-use Rattle.records.proofs.direct.has_memory.Reads as reads
-use Rattle.records.proofs.direct.has_memory.Lts as lts
-use Rattle.records.proofs.direct.is_memory_at.Reads as is-memory-at-reads
-use mathlib.Core.Path.{_∙_}
+use Rattle.records.proofs.ways.has_memory.Statement.{statement}
+use Rattle.records.proofs.ways.has_memory.Tie as tie
 
 is-memory-at-requires : tie.Need-is-memory-at-requires
 is-memory-at-requires c κs = search needs

@@ -1,18 +1,14 @@
--- `records::direct::general_way` meets its contract: by the size, and by the operands where the size does not tell.
+-- `records::ways::general_way` meets its contract: by the size, and by the operands where the size does not tell.
 -- Assumes nothing.
 use borrow.Author.Needs.{needs}
-use Rattle.records.proofs.direct.general_way.Statement.{statement}
-use Rattle.records.proofs.direct.general_way.Tie as tie
-use Rattle.records.proofs.direct.general_way.Reads as reads
-use Rattle.records.proofs.direct.general_way.Lts as lts
-use Rattle.records.proofs.direct.has_memory.Reads as has-memory-reads
-use Rattle.records.proofs.direct.needs_no_look.Reads as needs-no-look-reads
+use Rattle.records.proofs.ways.general_way.Statement.{statement}
+use Rattle.records.proofs.ways.general_way.Tie as tie
 use denote.Ref.{now}
 use mathlib.Core.Path.{sym, _∙_}
 use borrow.Author.Tests.{eq-eqb, ne-eqb}
 use Rattle.bodies.specs.Body.{byte}
 use Rattle.bodies.specs.Decoding.{instructionOf}
-use Rattle.records.proofs.Directly.{way-eight, way-seen, way-looked}
+use Rattle.records.proofs.Chosen.{way-eight, way-seen, way-looked}
 
 shared-slice-read-size : tie.Need-shared-slice-read-size
 shared-slice-read-size c = search needs

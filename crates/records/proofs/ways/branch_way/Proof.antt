@@ -1,16 +1,14 @@
--- `records::direct::branch_way` meets its contract: by the kind of operand 0, where it is there.
+-- `records::ways::branch_way` meets its contract: by the kind of operand 0, where it is there.
 -- Assumes nothing.
 use borrow.Author.Needs.{needs}
-use Rattle.records.proofs.direct.branch_way.Statement.{statement}
-use Rattle.records.proofs.direct.branch_way.Tie as tie
-use Rattle.records.proofs.direct.branch_way.Reads as reads
-use Rattle.records.proofs.direct.branch_way.Lts as lts
+use Rattle.records.proofs.ways.branch_way.Statement.{statement}
+use Rattle.records.proofs.ways.branch_way.Tie as tie
 use denote.Ref.{now}
 use mathlib.Core.Path.{sym, ap, _∙_}
 use mathlib.Core.Bool.{Bool, cond}
 use Rattle.bodies.specs.Decoding.{instructionOf}
 use Rattle.records.specs.declared.Way.the-variants.{ByLine, Branch}
-use Rattle.records.proofs.Directly.{branch-there, branch-none}
+use Rattle.records.proofs.ByKind.{branch-there, branch-none}
 
 shared-slice-read-if1 : tie.Need-shared-slice-read-if1
 shared-slice-read-if1 c = search needs
