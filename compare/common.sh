@@ -90,7 +90,6 @@ wrapper() {
 # The C host over the archive, and the listing programs: scripts in target/compare/bin that run them,
 # under the emulator where it takes one. `bin` is the folder of such scripts.
 build_host() {
-    emulated=
     if [ -n "${COMPARE_STANDIN:-}" ]; then
         # beside the stand-in, so that two of them can be compared at a time
         bin=$COMPARE_STANDIN/bin
@@ -120,7 +119,6 @@ build_host() {
             "$tools/bin/ld.lld" -static -o "$out/host/host" "$out/host/driver.o" "$out/host/bare_x86_64.o" "$archive" ||
                 die "the host does not link to the archive"
         fi
-        emulated=$emulator
         wrapper host ${emulator:+"$emulator"} "$out/host/host"
         for name in list_crate list_straight; do
             # as rt runs a program: under the kit's loader and C library

@@ -1,6 +1,6 @@
 //! The Rust printers under the archive's two names, so that one C host times all of them alike: the
-//! one made from 000 (`--cfg from_000`), or the direct one. Only `core` is used, so that it also
-//! builds for a machine that this one has no Rust library for.
+//! one made from 000 (`--cfg from_000`), or the direct one. Only `core` is used, so that nothing but the
+//! printer is linked.
 
 #![no_std]
 
