@@ -67,15 +67,18 @@ module _ (label : Label) (body : List ℕ) where
   unfolding partedText
   parted-there s k = ap (λ (t : Bool). when t (s ++ operandText k)) (shows-there k)
 
+  -- the operands, each where the count has it
+  parted-all : itemsText (operandsWith label body) ≡ when (ltb 0 (countOf body)) (bytes " " ++ operandText 0) ++ (when (ltb 1 (countOf body)) (bytes ", " ++ operandText 1) ++ (when (ltb 2 (countOf body)) (bytes ", " ++ operandText 2) ++ when (ltb 3 (countOf body)) (bytes ", " ++ operandText 3)))
+  unfolding itemsText
+  parted-all = rw (parted-there (bytes " ") 0, parted-there (bytes ", ") 1, parted-there (bytes ", ") 2, parted-there (bytes ", ") 3)
+
   -- a record has four operands at most
   all-operands : (n : ℕ) → n ≤ 4 → countOf body ≡ n → itemsText (operandsWith label body) ≡ operandsFrom n 0 label body
-  unfolding itemsText
-  all-operands zero h e = rw (parted-there (bytes " ") 0, parted-there (bytes ", ") 1, parted-there (bytes ", ") 2, parted-there (bytes ", ") 3, e)
-  all-operands (suc zero) h e = rw (parted-there (bytes " ") 0, parted-there (bytes ", ") 1, parted-there (bytes ", ") 2, parted-there (bytes ", ") 3, e)
-  all-operands (suc (suc zero)) h e = rw (parted-there (bytes " ") 0, parted-there (bytes ", ") 1, parted-there (bytes ", ") 2, parted-there (bytes ", ") 3, e)
-  all-operands (suc (suc (suc zero))) h e = rw (parted-there (bytes " ") 0, parted-there (bytes ", ") 1, parted-there (bytes ", ") 2, parted-there (bytes ", ") 3, e)
-  all-operands (suc (suc (suc (suc zero)))) h e =
-      rw (parted-there (bytes " ") 0, parted-there (bytes ", ") 1, parted-there (bytes ", ") 2, parted-there (bytes ", ") 3, e, append-nil (operandText 3))
+  all-operands zero h e = parted-all ∙ rw e
+  all-operands (suc zero) h e = parted-all ∙ rw e
+  all-operands (suc (suc zero)) h e = parted-all ∙ rw e
+  all-operands (suc (suc (suc zero))) h e = parted-all ∙ rw e
+  all-operands (suc (suc (suc (suc zero)))) h e = parted-all ∙ rw (e, append-nil (operandText 3))
   all-operands (suc (suc (suc (suc (suc n))))) h e = absurd (omega arith)
 
   -- operand k, and those behind it
