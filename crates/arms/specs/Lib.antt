@@ -1,5 +1,4 @@
 -- What each arm shows. Definitions only: the laws are in proofs/.
-pub mod Arms
 pub mod Parts
 pub mod General
 pub mod Rewritten

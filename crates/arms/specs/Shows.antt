@@ -7,8 +7,8 @@ use Rattle.operands.specs.declared.Label.the-variants.{Fword}
 use Rattle.operands.specs.declared.Items.{Items}
 use Rattle.operands.specs.declared.Instruction.{Instruction}
 use Rattle.operands.specs.Kinds.{isAbsent, isRegister}
-use Rattle.arms.specs.declared.Arm.{Arm}
-use Rattle.arms.specs.declared.Arm.the-variants.{
+use Rattle.names.specs.declared.Arm.{Arm}
+use Rattle.names.specs.declared.Arm.the-variants.{
   General,
   Qword,
   Mmword,

@@ -2,7 +2,6 @@
 ghost use mathlib.Core.Path.{_≡_};
 ghost use Rattle.arms.specs.Rewritten.{lssLabel, branch as branchItems};
 ghost use Rattle.arms.specs.Shows.{itemsOf};
-use crate::Arm;
 use crate::general::generally;
 use crate::parts::bare_item;
 use crate::parts::immediate_kind;
@@ -14,6 +13,7 @@ use crate::parts::plain;
 use crate::parts::register_of;
 use crate::parts::two;
 use branches::branch_shown;
+use names::Arm;
 use operands::Instruction;
 use operands::Items;
 use operands::Label;

@@ -1,7 +1,6 @@
 // What each arm shows, in document 000's order: the short arms stand here, those that test something in the other modules.
 ghost use mathlib.Core.Path.{_≡_};
 ghost use Rattle.arms.specs.Shows.{itemsOf};
-use crate::Arm;
 use crate::fpu::fadd;
 use crate::fpu::fbld;
 use crate::fpu::tbyte_label;
@@ -24,6 +23,7 @@ use crate::rewritten::lss_label;
 use crate::rewritten::nop;
 use crate::rewritten::relative_branch;
 use crate::rewritten::xbegin;
+use names::Arm;
 use operands::Instruction;
 use operands::Items;
 use operands::Label;

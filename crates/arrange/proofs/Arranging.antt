@@ -5,7 +5,7 @@ use mathlib.Core.Bool.{Bool, true, false, cond, not, _&&_, true≢false}
 use Prim.Native.Nat.{ℕ}
 use Rattle.operands.specs.declared.Instruction.{Instruction}
 use Rattle.arms.specs.Shows.{itemsOf}
-use Rattle.arms.specs.declared.Arm.{Arm}
+use Rattle.names.specs.declared.Arm.{Arm}
 use Rattle.arrange.specs.Shape.{shapeRefused}
 use Rattle.arrange.specs.Size.{sizeRefused, lacksLabel}
 use Rattle.arrange.specs.Head.{bit, canRep, headOf}

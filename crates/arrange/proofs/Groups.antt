@@ -10,10 +10,10 @@ use lib.Dec.{T}
 use store.Enc.{and-l, and-r}
 use types.Run.{OneOf}
 use denote.Enum.Declared.{tagOf}
-use Rattle.arms.proofs.Arm.{the-type}
-use Rattle.arms.proofs.Numbered.{armAt}
-use Rattle.arms.specs.declared.Arm.{Arm}
-use Rattle.arms.specs.declared.Arm.the-variants as arm
+use Rattle.names.proofs.Arm.{the-type}
+use Rattle.names.proofs.ArmNumbers.{armAt}
+use Rattle.names.specs.declared.Arm.{Arm}
+use Rattle.names.specs.declared.Arm.the-variants as arm
 use Rattle.arrange.specs.Among.{among}
 
 -- the place of an arm in the declaration, which the code goes by

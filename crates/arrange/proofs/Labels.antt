@@ -32,8 +32,8 @@ use Rattle.arms.specs.Parts.{plain, labelled, labelledMemory, sizeLabel, none, 
 use Rattle.arms.specs.General.{generalLabel, general, generally, hasVector}
 use Rattle.arms.specs.Rewritten.{isBranch, isXbegin, branch, lsl, lssLabel, tbyteLabel, st, fadd, fbld}
 use Rattle.arms.specs.Shows.{itemsOf}
-use Rattle.arms.specs.declared.Arm.{Arm}
-use Rattle.arms.specs.declared.Arm.the-variants.{
+use Rattle.names.specs.declared.Arm.{Arm}
+use Rattle.names.specs.declared.Arm.the-variants.{
   General,
   Qword,
   Mmword,

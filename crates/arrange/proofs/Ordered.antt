@@ -15,8 +15,8 @@ use Rattle.arms.specs.Parts.{shownOf, item, plain, named, labelled, labelledMem
 use Rattle.arms.specs.General.{generalLabel, general, generally, hasVector}
 use Rattle.arms.specs.Rewritten.{isBranch, isXbegin, branch, lslSource, lsl, lssLabel, isSt0, st, fadd}
 use Rattle.arms.specs.Shows.{itemsOf}
-use Rattle.arms.specs.declared.Arm.{Arm}
-use Rattle.arms.specs.declared.Arm.the-variants.{
+use Rattle.names.specs.declared.Arm.{Arm}
+use Rattle.names.specs.declared.Arm.the-variants.{
   General,
   Qword,
   Mmword,

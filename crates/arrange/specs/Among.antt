@@ -3,8 +3,8 @@
 use mathlib.Core.Bool.{Bool, false, _||_}
 use mathlib.Core.List.{List, [], _∷_}
 use lib.Dec.{eqb}
-use Rattle.arms.specs.declared.Arm.{Arm}
-use Rattle.arms.specs.Arms.{number}
+use Rattle.names.specs.declared.Arm.{Arm}
+use Rattle.names.specs.Opcodes.{number}
 
 -- one and the same arm
 abbrev pub same : Arm → Arm → Bool

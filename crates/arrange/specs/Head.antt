@@ -4,8 +4,8 @@ use mathlib.Core.Bool.{Bool, cond, not, _&&_, _||_}
 use mathlib.Core.List.{[], _∷_}
 use Prim.Native.Nat.{ℕ, _/_, _%_, _^_}
 use lib.Dec.{eqb}
-use Rattle.arms.specs.declared.Arm.{Arm}
-use Rattle.arms.specs.declared.Arm.the-variants.{Jmpf, Callf, Movs, Cmps, Feni as FeniArm, Fdisi as FdisiArm, Fsetpm as FsetpmArm, Scas, Lods, Incssp, Wrss, Pushf}
+use Rattle.names.specs.declared.Arm.{Arm}
+use Rattle.names.specs.declared.Arm.the-variants.{Jmpf, Callf, Movs, Cmps, Feni as FeniArm, Fdisi as FdisiArm, Fsetpm as FsetpmArm, Scas, Lods, Incssp, Wrss, Pushf}
 use Rattle.arrange.specs.Among.{same, among}
 use Rattle.arrange.specs.declared.Head.{Head}
 use Rattle.arrange.specs.declared.Name.{Name}

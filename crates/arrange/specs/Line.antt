@@ -2,9 +2,9 @@
 -- Assumes nothing.
 use mathlib.Core.Bool.{Bool, cond}
 use Rattle.operands.specs.declared.Instruction.{Instruction}
-use Rattle.arms.specs.Arms.{armOf}
+use Rattle.names.specs.Opcodes.{armOf}
 use Rattle.arms.specs.Shows.{itemsOf}
-use Rattle.arms.specs.declared.Arm.{Arm}
+use Rattle.names.specs.declared.Arm.{Arm}
 use Rattle.arrange.specs.Shape.{shapeRefused}
 use Rattle.arrange.specs.Size.{sizeRefused}
 use Rattle.arrange.specs.Head.{headOf}

@@ -9,8 +9,8 @@ use Rattle.operands.specs.declared.Instruction.{Instruction}
 use Rattle.operands.specs.declared.Operand.{Operand}
 use Rattle.arms.specs.Parts.{registerOf, bank}
 use Rattle.arms.specs.Rewritten.{lslSource}
-use Rattle.arms.specs.declared.Arm.{Arm}
-use Rattle.arms.specs.declared.Arm.the-variants.{
+use Rattle.names.specs.declared.Arm.{Arm}
+use Rattle.names.specs.declared.Arm.the-variants.{
   Hreset,
   Lsl,
   Prefetch,

@@ -12,8 +12,8 @@ use Rattle.operands.specs.declared.Label.{Label}
 use Rattle.operands.specs.declared.Label.the-variants as label
 use Rattle.operands.specs.declared.Label.the-variants.{None, Byte, Word, Dword, Xmmword, Ymmword, Zmmword, Fword, Tbyte, Missing}
 use Rattle.arms.specs.Rewritten.{isBranch, isXbegin}
-use Rattle.arms.specs.declared.Arm.{Arm}
-use Rattle.arms.specs.declared.Arm.the-variants.{
+use Rattle.names.specs.declared.Arm.{Arm}
+use Rattle.names.specs.declared.Arm.the-variants.{
   General,
   Qword,
   Mmword,

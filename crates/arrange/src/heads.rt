@@ -6,7 +6,7 @@ ghost use lib.Dec.{eqb};
 ghost use Rattle.arrange.specs.Head.{canRep, nameOf, suffixed as isSuffixed, headOf};
 use crate::Head;
 use crate::Name;
-use arms::Arm;
+use names::Arm;
 
 // One bit of the flags, by its weight.
 fn flag(flags: u8, weight: u8) -> bool

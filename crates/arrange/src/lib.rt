@@ -1,10 +1,10 @@
 // The line of a record: which records are refused by shape or by size, and what the line of every other shows.
-ghost use mathlib.Core.List.{map};
 ghost use mathlib.Core.Path.{_≡_};
-ghost use Rattle.arms.specs.Arms.{number, arms as armTable};
+ghost use Rattle.names.specs.Opcodes.{ArmTable};
 ghost use Rattle.arrange.specs.Line.{arranged};
 use arms::shows::items as shown_items;
-use arms::table::arm_of;
+use names::opcodes;
+use names::opcodes::arm_of;
 use operands::Instruction;
 use operands::Items;
 
@@ -46,8 +46,8 @@ pub enum Arranged {
 
 // A record's line, or its refusal. The table of the opcodes' arms is lent, so that it is made once for many records. The size is
 // decided on what the line would show: that is what the fields say of it, by a law.
-pub fn arrange(table: &[u8; 154], straight: bool, i: Instruction) -> Arranged
-    requires { ⌜ now table ≡ map number armTable ⌝ }
+pub fn arrange(table: &opcodes::Arms, straight: bool, i: Instruction) -> Arranged
+    requires { ⌜ ArmTable (now table) ⌝ }
     ensures { λ r. ⌜ r ≡ arranged straight i ⌝ }
 {
     let arm = arm_of(table, i.opcode);

@@ -1,8 +1,8 @@
 // Answer 4: which records are refused for the shape of their operands.
 ghost use mathlib.Core.Path.{_≡_};
 ghost use Rattle.arrange.specs.Shape.{lslRefused, isBank0, shapeRefused};
-use arms::Arm;
 use arms::parts::register_of;
+use names::Arm;
 use operands::Instruction;
 use operands::Operand;
 use operands::kinds::is_absent;

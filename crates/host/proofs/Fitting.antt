@@ -1,15 +1,14 @@
 -- A length fits 32 bits, of a record and of a listing alike.
 -- Assumes nothing.
 use mathlib.Core.Path.{_≡_, refl, sym, ap, _∙_}
-use mathlib.Core.Bool.{Bool, true, false, _||_}
+use mathlib.Core.Bool.{Bool, true, false, _||_, cond}
 use mathlib.Core.List.{List, [], _∷_}
 use Prim.Native.Nat.{ℕ, _+_, _*_, _^_, _≤_, _<_}
 use native.Mathlib.Omega.{arith}
 use lib.Dec.{ltb, eqb, lit<, lit≤}
 use lib.ListN.{length}
 use borrow.Author.Tests.{ltb-false}
-use Rattle.text.specs.Choice.{pick}
-use Rattle.text.proofs.Choosing.{pick-by, pick-most}
+use Rattle.text.proofs.Choosing.{cond-by, cond-most}
 use Rattle.lines.proofs.Short.{line-short}
 use Rattle.records.specs.Answers.{lowest, lengthWith, roomRefused, outcomeOf, numberOf, lengthOf, Gives}
 use Rattle.records.specs.Records.{modeRefused, lineAt, recordText, recordOutcome}
@@ -19,7 +18,7 @@ use Rattle.listings.specs.Listings.{sizeLimit, listingRefusals, listingOutcome}
 use Rattle.listings.proofs.Following.{lines-short}
 
 length-most : (a : ℕ) (t : List ℕ) → lengthWith a t ≤ length t
-length-most a t = pick-most (eqb a 0 || eqb a 6) (length t)
+length-most a t = cond-most (eqb a 0 || eqb a 6) (length t)
 
 pub record-fits : (mode : ℕ) (body buf : List ℕ) → recordOutcome mode body buf .length < 2 ^ 32
 unfolding recordOutcome outcomeOf recordText
@@ -30,7 +29,7 @@ text-short : (mode : ℕ) (xs : List ℕ) → length (listingText mode xs) ≤ 1
 unfolding listingText
 text-short mode [] = lit≤ tt
 text-short mode (v ∷ xs) =
-    pick-by (λ (t : List ℕ). length t ≤ 129 * length (v ∷ xs) + 10) (eqb v 1) (λ e. omega (arith, lines-short mode xs)) (λ e. omega arith)
+    cond-by (λ (t : List ℕ). length t ≤ 129 * length (v ∷ xs) + 10) (eqb v 1) (λ e. omega (arith, lines-short mode xs)) (λ e. omega arith)
 
 -- a listing over the limit has no length at all
 limited : (m l r : Bool) (t : List ℕ) → (l ≡ false → length t < 2 ^ 32) → lengthWith (lowest 1 (m ∷ l ∷ false ∷ false ∷ false ∷ r ∷ [])) t < 2 ^ 32

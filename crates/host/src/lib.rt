@@ -28,11 +28,11 @@ fn pack(answer: Answer) -> u64
 pub extern "C" fn masm_print_record(body: &[u8], mode: u32, text: &mut [u8]) -> u64
     ensures { λ r. ⌜ Returns (recordOutcome mode (now (body .entry)) (now (text .entry))) r (now (text .exit)) ⌝ }
 {
-    let name_letters = names::mnemonics::letters();
-    let name_starts = names::mnemonics::starts();
+    let name_letters = names::opcodes::letters();
+    let name_starts = names::opcodes::starts();
     let register_letters = names::registers::letters();
     let register_starts = names::registers::starts();
-    let arms = arms::table::ARMS;
+    let arms = names::opcodes::ARMS;
     let answer = records::print::print_record(
         &name_letters,
         &name_starts,
@@ -50,11 +50,11 @@ pub extern "C" fn masm_print_record(body: &[u8], mode: u32, text: &mut [u8]) -> 
 pub extern "C" fn masm_print_listing(listing: &[u8], mode: u32, text: &mut [u8]) -> u64
     ensures { λ r. ⌜ Returns (listingOutcome mode (now (listing .entry)) (now (text .entry))) r (now (text .exit)) ⌝ }
 {
-    let name_letters = names::mnemonics::letters();
-    let name_starts = names::mnemonics::starts();
+    let name_letters = names::opcodes::letters();
+    let name_starts = names::opcodes::starts();
     let register_letters = names::registers::letters();
     let register_starts = names::registers::starts();
-    let arms = arms::table::ARMS;
+    let arms = names::opcodes::ARMS;
     let answer = listings::print::print_listing(
         &name_letters,
         &name_starts,

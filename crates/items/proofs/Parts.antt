@@ -1,7 +1,7 @@
 -- The parts of an operand's text: their cases and their lengths.
 -- Assumes nothing.
 use mathlib.Core.Path.{_≡_, refl, sym, ap, _∙_}
-use mathlib.Core.Bool.{Bool, true, false}
+use mathlib.Core.Bool.{Bool, true, false, cond}
 use mathlib.Core.List.{List, [], _++_}
 use Prim.Native.Nat.{ℕ, _+_, _<_, _≤_}
 use native.Mathlib.Nat.{add-assoc}
@@ -9,7 +9,7 @@ use native.Mathlib.Omega.{arith}
 use borrow.Author.Tests.{lt-ltb, le-ltb}
 use lib.IntN.{ℤ}
 use lib.ListN.{length, length-append}
-use Rattle.text.specs.Choice.{pick, when}
+use Rattle.text.specs.Choice.{when}
 use Rattle.text.specs.Words.{bytes}
 use Rattle.text.proofs.Choosing.{length-when}
 use Rattle.numerals.specs.Digits.{digits}
@@ -49,13 +49,13 @@ tail-hidden d hidden = rw hidden
 pub scale-shown-length : {s : ℕ} → 1 < s → length (scaleText s) ≡ 4
 scale-shown-length {s} h = ap length (scale-shown h) ∙ length-append (bytes " * ") (digits 1 s) ∙ rw (length-digits 1 s)
 
-pub index-length : (a : Address) → a .indexed ≡ true → length (indexText a) ≡ pick (a .based) 3 0 + length (registerName (a .index)) + length (scaleText (a .scale))
+pub index-length : (a : Address) → a .indexed ≡ true → length (indexText a) ≡ cond (a .based) 3 0 + length (registerName (a .index)) + length (scaleText (a .scale))
 unfolding indexText indexedText
 index-length a e =
     rw e
     (length-append (when (a .based) (bytes " + ")) (registerName (a .index) ++ scaleText (a .scale))
     ∙ rw (length-when (a .based) (bytes " + "), length-append (registerName (a .index)) (scaleText (a .scale)))
-    (sym (add-assoc (pick (a .based) 3 0) (length (registerName (a .index))) (length (scaleText (a .scale))))))
+    (sym (add-assoc (cond (a .based) 3 0) (length (registerName (a .index))) (length (scaleText (a .scale))))))
 
 pub tail-shown-length : {displaced : Bool} (d : ℤ) → displaced ≡ true → length (tailText displaced d) ≡ length (displacement d) + 2
 tail-shown-length d e =
@@ -75,12 +75,12 @@ unfolding absoluteText
 absolute-length k address =
     length-append (bytes "[") (absolute k address ++ bytes "]") ∙ rw (length-append (absolute k address) (bytes "]")) (omega arith)
 
-pub branch-length : (near minus : Bool) (size : ℕ) → length (branchText near minus size) ≡ pick near 9 0 + 2 + length (numeral size)
+pub branch-length : (near minus : Bool) (size : ℕ) → length (branchText near minus size) ≡ cond near 9 0 + 2 + length (numeral size)
 unfolding branchText
 branch-length near minus size =
     length-append (when near (bytes "near ptr ")) (signText minus ++ numeral size)
     ∙ rw (length-when near (bytes "near ptr "), length-append (signText minus) (numeral size), sign-length minus)
-    (sym (add-assoc (pick near 9 0) 2 (length (numeral size))))
+    (sym (add-assoc (cond near 9 0) 2 (length (numeral size))))
   where
     sign-length : (minus : Bool) → length (signText minus) ≡ 2
     sign-length true = refl

@@ -1,16 +1,16 @@
 -- No operand's text is longer than so.
 -- Assumes nothing.
 use mathlib.Core.Path.{_≡_, ap}
-use mathlib.Core.Bool.{Bool, true, false}
+use mathlib.Core.Bool.{Bool, true, false, cond}
 use mathlib.Core.List.{List, _++_}
 use Prim.Native.Nat.{ℕ, _+_, _≤_}
 use native.Mathlib.Omega.{arith}
 use lib.Dec.{ltb, lit≤}
 use lib.IntN.{ℤ}
 use lib.ListN.{length, length-append}
-use Rattle.text.specs.Choice.{pick, when}
+use Rattle.text.specs.Choice.{when}
 use Rattle.text.specs.Words.{bytes}
-use Rattle.text.proofs.Choosing.{length-when, pick-most}
+use Rattle.text.proofs.Choosing.{length-when, cond-most}
 use Rattle.text.proofs.Tables.{no-longer}
 use Rattle.numerals.specs.Digits.{digits}
 use Rattle.numerals.specs.Numerals.{numeral, displacement, absolute}
@@ -30,7 +30,7 @@ use Rattle.items.proofs.Parts.{bracket-length, absolute-length, branch-
 
 -- a text that stands only where it is called for is no longer than the text
 when-most : (b : Bool) (t : List ℕ) → length (when b t) ≤ length t
-when-most b t = omega (arith, length-when b t, pick-most b (length t))
+when-most b t = omega (arith, length-when b t, cond-most b (length t))
 
 pub register-short : (r : ℕ) → length (registerName r) ≤ 5
 unfolding registerName registers
@@ -107,7 +107,7 @@ shown-short (Word v) = omega (arith, absolute-length 4 v, absolute-short 4 v)
 shown-short (Dword v) = omega (arith, absolute-length 8 v, absolute-short 8 v)
 shown-short (Bracket a) =
     omega (arith, bracket-length a, base-short (a .based) (a .base), index-short a, tail-short (a .displaced) (a .disp))
-shown-short (Branch near minus size) = omega (arith, branch-length near minus size, pick-most near 9, numeral-short size)
+shown-short (Branch near minus size) = omega (arith, branch-length near minus size, cond-most near 9, numeral-short size)
 
 pub item-short : (i : Item) → length (itemText i) ≤ 47
 item-short i = omega (arith, item-length i, label-short (i .label), segment-short (i .segment), shown-short (i .shown))

@@ -1,9 +1,9 @@
 -- The text of an operand: its label, its segment and what is shown.
 -- Assumes nothing.
-use mathlib.Core.Bool.{Bool}
+use mathlib.Core.Bool.{Bool, cond}
 use mathlib.Core.List.{List, [], _++_}
 use Prim.Native.Nat.{ℕ}
-use Rattle.text.specs.Choice.{pick, when}
+use Rattle.text.specs.Choice.{when}
 use Rattle.text.specs.Words.{bytes}
 use Rattle.numerals.specs.Numerals.{numeral, absolute}
 use Rattle.names.specs.Registers.{registerName}
@@ -19,7 +19,7 @@ absoluteText k address = bytes "[" ++ (absolute k address ++ bytes "]")
 
 -- "`$`, sign .."
 abbrev pub signText : Bool → List ℕ
-signText minus = pick minus (bytes "$-") (bytes "$+")
+signText minus = cond minus (bytes "$-") (bytes "$+")
 
 -- "`$`, sign and numeral of distance plus length", with "`near ptr ` in front" where it is called for
 unfoldable pub branchText : Bool → Bool → ℕ → List ℕ

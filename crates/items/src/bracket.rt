@@ -2,9 +2,8 @@
 ghost use mathlib.Core.Path.{_≡_};
 ghost use Prim.Native.Nat.{_≤_};
 ghost use lib.ListN.{length};
+ghost use Rattle.names.specs.Registers.{RegisterTable};
 ghost use Rattle.text.specs.Write.{Room, Put};
-ghost use Rattle.text.specs.Words.{Table};
-ghost use Rattle.names.specs.Registers.{registers};
 ghost use Rattle.items.specs.Brackets.{baseText, scaleText, indexedText, indexText, tailText, bracketText};
 use names::registers::Letters;
 use names::registers::Starts;
@@ -18,7 +17,7 @@ fn put_base(
     based: bool,
     base: u8,
 ) -> usize
-    requires { ⌜ Table registers (now letters) (now starts) ⌝ }
+    requires { ⌜ RegisterTable (now letters) (now starts) ⌝ }
     requires { ⌜ Room (now buf) at (baseText based base) ⌝ }
     ensures { λ r. ⌜ Put (now (buf .entry)) at (baseText based base) r (now (buf .exit)) ⌝ }
 {
@@ -50,7 +49,7 @@ fn put_indexed(
     index: u8,
     scale: u8,
 ) -> usize
-    requires { ⌜ Table registers (now letters) (now starts) ⌝ }
+    requires { ⌜ RegisterTable (now letters) (now starts) ⌝ }
     requires { ⌜ Room (now buf) at (indexedText based index scale) ⌝ }
     ensures { λ r. ⌜ Put (now (buf .entry)) at (indexedText based index scale) r (now (buf .exit)) ⌝ }
 {
@@ -60,7 +59,7 @@ fn put_indexed(
 }
 
 fn put_index(buf: &mut [u8], at: usize, letters: &Letters, starts: &Starts, a: Address) -> usize
-    requires { ⌜ Table registers (now letters) (now starts) ⌝ }
+    requires { ⌜ RegisterTable (now letters) (now starts) ⌝ }
     requires { ⌜ Room (now buf) at (indexText a) ⌝ }
     ensures { λ r. ⌜ Put (now (buf .entry)) at (indexText a) r (now (buf .exit)) ⌝ }
 {
@@ -92,7 +91,7 @@ pub fn put_bracket(
     starts: &Starts,
     a: Address,
 ) -> usize
-    requires { ⌜ Table registers (now letters) (now starts) ⌝ }
+    requires { ⌜ RegisterTable (now letters) (now starts) ⌝ }
     requires { ⌜ Room (now buf) at (bracketText a) ⌝ }
     ensures { λ r. ⌜ Put (now (buf .entry)) at (bracketText a) r (now (buf .exit)) ⌝ }
 {
@@ -110,7 +109,7 @@ fn scale_length(scale: u8) -> usize
 }
 
 fn base_length(letters: &Letters, starts: &Starts, based: bool, base: u8) -> usize
-    requires { ⌜ Table registers (now letters) (now starts) ⌝ }
+    requires { ⌜ RegisterTable (now letters) (now starts) ⌝ }
     ensures { λ r. ⌜ r ≡ length (baseText based base) ⌝ }
     ensures { λ r. ⌜ r ≤ 5 ⌝ }
 {
@@ -122,7 +121,7 @@ fn base_length(letters: &Letters, starts: &Starts, based: bool, base: u8) -> usi
 }
 
 fn index_length(letters: &Letters, starts: &Starts, a: Address) -> usize
-    requires { ⌜ Table registers (now letters) (now starts) ⌝ }
+    requires { ⌜ RegisterTable (now letters) (now starts) ⌝ }
     ensures { λ r. ⌜ r ≡ length (indexText a) ⌝ }
     ensures { λ r. ⌜ r ≤ 12 ⌝ }
 {
@@ -147,7 +146,7 @@ fn tail_length(displaced: bool, disp: i32) -> usize
 }
 
 pub fn bracket_length(letters: &Letters, starts: &Starts, a: Address) -> usize
-    requires { ⌜ Table registers (now letters) (now starts) ⌝ }
+    requires { ⌜ RegisterTable (now letters) (now starts) ⌝ }
     ensures { λ r. ⌜ r ≡ length (bracketText a) ⌝ }
     ensures { λ r. ⌜ r ≤ 32 ⌝ }
 {

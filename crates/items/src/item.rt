@@ -2,9 +2,8 @@
 ghost use mathlib.Core.Path.{_≡_};
 ghost use Prim.Native.Nat.{_≤_};
 ghost use lib.ListN.{length};
+ghost use Rattle.names.specs.Registers.{RegisterTable};
 ghost use Rattle.text.specs.Write.{Room, Put};
-ghost use Rattle.text.specs.Words.{Table};
-ghost use Rattle.names.specs.Registers.{registers};
 ghost use Rattle.items.specs.Items.{absoluteText, signText, branchText, shownText, itemText};
 use crate::bracket;
 use crate::label;
@@ -52,7 +51,7 @@ fn put_branch(buf: &mut [u8], at: usize, near: bool, minus: bool, size: u32) -> 
 }
 
 fn put_shown(buf: &mut [u8], at: usize, letters: &Letters, starts: &Starts, shown: Shown) -> usize
-    requires { ⌜ Table registers (now letters) (now starts) ⌝ }
+    requires { ⌜ RegisterTable (now letters) (now starts) ⌝ }
     requires { ⌜ Room (now buf) at (shownText shown) ⌝ }
     ensures { λ r. ⌜ Put (now (buf .entry)) at (shownText shown) r (now (buf .exit)) ⌝ }
 {
@@ -69,7 +68,7 @@ fn put_shown(buf: &mut [u8], at: usize, letters: &Letters, starts: &Starts, show
 }
 
 pub fn put_item(buf: &mut [u8], at: usize, letters: &Letters, starts: &Starts, item: Item) -> usize
-    requires { ⌜ Table registers (now letters) (now starts) ⌝ }
+    requires { ⌜ RegisterTable (now letters) (now starts) ⌝ }
     requires { ⌜ Room (now buf) at (itemText item) ⌝ }
     ensures { λ r. ⌜ Put (now (buf .entry)) at (itemText item) r (now (buf .exit)) ⌝ }
 {
@@ -88,7 +87,7 @@ fn branch_length(near: bool, minus: bool, size: u32) -> usize
 }
 
 fn shown_length(letters: &Letters, starts: &Starts, shown: Shown) -> usize
-    requires { ⌜ Table registers (now letters) (now starts) ⌝ }
+    requires { ⌜ RegisterTable (now letters) (now starts) ⌝ }
     ensures { λ r. ⌜ r ≡ length (shownText shown) ⌝ }
     ensures { λ r. ⌜ r ≤ 32 ⌝ }
 {
@@ -105,7 +104,7 @@ fn shown_length(letters: &Letters, starts: &Starts, shown: Shown) -> usize
 }
 
 pub fn item_length(letters: &Letters, starts: &Starts, item: Item) -> usize
-    requires { ⌜ Table registers (now letters) (now starts) ⌝ }
+    requires { ⌜ RegisterTable (now letters) (now starts) ⌝ }
     ensures { λ r. ⌜ r ≡ length (itemText item) ⌝ }
     ensures { λ r. ⌜ r ≤ 47 ⌝ }
 {

@@ -1,13 +1,13 @@
 -- The parts of a line's text: their cases and their lengths.
 -- Assumes nothing.
 use mathlib.Core.Path.{_≡_, refl, sym, ap, _∙_}
-use mathlib.Core.Bool.{Bool, true, false}
+use mathlib.Core.Bool.{Bool, true, false, cond}
 use mathlib.Core.List.{List, [], _++_}
 use Prim.Native.Nat.{ℕ, _+_, _≤_}
 use native.Mathlib.Nat.{add-assoc}
 use native.Mathlib.Omega.{arith}
 use lib.ListN.{length, length-append}
-use Rattle.text.specs.Choice.{pick, when}
+use Rattle.text.specs.Choice.{when}
 use Rattle.text.specs.Words.{bytes}
 use Rattle.text.proofs.Choosing.{length-when}
 use Rattle.names.specs.Words.{prefixes, prefixWord}
@@ -35,7 +35,7 @@ unfolding partedText
 parted-hidden s i e t = rw (← e, t)
 
 -- lengths
-pub prefixes-length : (h : Head) → length (prefixesText h) ≡ pick (h .xacquire) 9 0 + pick (h .xrelease) 9 0 + pick (h .lock) 5 0 + pick (h .rep) 4 0 + pick (h .repne) 6 0
+pub prefixes-length : (h : Head) → length (prefixesText h) ≡ cond (h .xacquire) 9 0 + cond (h .xrelease) 9 0 + cond (h .lock) 5 0 + cond (h .rep) 4 0 + cond (h .repne) 6 0
 unfolding prefixesText
 prefixes-length h =
     let xacquire = when (h .xacquire) (bytes "xacquire ") in
@@ -56,7 +56,7 @@ prefixes-length h =
       length-when (h .repne) (bytes "repne "),
     )
 
-pub head-length : (h : Head) → length (headText h) ≡ length (prefixesText h) + length (nameText (h .name)) + pick (h .suffix) 1 0
+pub head-length : (h : Head) → length (headText h) ≡ length (prefixesText h) + length (nameText (h .name)) + cond (h .suffix) 1 0
 unfolding headText
 head-length h =
     omega (
@@ -66,10 +66,10 @@ head-length h =
       length-when (h .suffix) (bytes "d"),
     )
 
-pub parted-length : (s : List ℕ) (i : Item) → length (partedText s i) ≡ pick (shows (i .shown)) (length s + length (itemText i)) 0
+pub parted-length : (s : List ℕ) (i : Item) → length (partedText s i) ≡ cond (shows (i .shown)) (length s + length (itemText i)) 0
 unfolding partedText
 parted-length s i =
-    length-when (shows (i .shown)) (s ++ itemText i) ∙ ap (λ (n : ℕ). pick (shows (i .shown)) n 0) (length-append s (itemText i))
+    length-when (shows (i .shown)) (s ++ itemText i) ∙ ap (λ (n : ℕ). cond (shows (i .shown)) n 0) (length-append s (itemText i))
 
 pub items-length : (is : Items) → length (itemsText is) ≡ length (partedText (bytes " ") (is .a)) + length (partedText (bytes ", ") (is .b)) + length (partedText (bytes ", ") (is .c)) + length (partedText (bytes ", ") (is .d))
 unfolding itemsText

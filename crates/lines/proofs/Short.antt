@@ -7,8 +7,8 @@ use lib.Dec.{lit≤}
 use lib.ListN.{length}
 use Rattle.text.specs.Words.{bytes}
 use Rattle.text.proofs.Tables.{no-longer}
-use Rattle.text.proofs.Choosing.{pick-most}
-use Rattle.names.specs.Mnemonics.{mnemonics, mnemonic}
+use Rattle.text.proofs.Choosing.{cond-most}
+use Rattle.names.specs.Opcodes.{mnemonics, mnemonic, opcodes}
 use Rattle.operands.specs.declared.Item.{Item}
 use Rattle.items.specs.Items.{itemText}
 use Rattle.items.proofs.Short.{item-short}
@@ -20,7 +20,7 @@ use Rattle.lines.specs.Text.{prefixesText, nameText, headText, shows, pa
 use Rattle.lines.proofs.Parts.{prefixes-length, head-length, parted-length, items-length, line-length}
 
 name-short : (n : Name) → length (nameText n) ≤ 13
-unfolding nameText mnemonic mnemonics
+unfolding nameText mnemonic mnemonics opcodes
 name-short (Opcode k) = no-longer 13 mnemonics tt k
 name-short Feni = lit≤ tt
 name-short Fdisi = lit≤ tt
@@ -31,16 +31,16 @@ prefixes-short h =
     omega (
       arith,
       prefixes-length h,
-      pick-most (h .xacquire) 9,
-      pick-most (h .xrelease) 9,
-      pick-most (h .lock) 5,
-      pick-most (h .rep) 4,
-      pick-most (h .repne) 6,
+      cond-most (h .xacquire) 9,
+      cond-most (h .xrelease) 9,
+      cond-most (h .lock) 5,
+      cond-most (h .rep) 4,
+      cond-most (h .repne) 6,
     )
 
 parted-short : (s : List ℕ) (i : Item) → length (partedText s i) ≤ length s + 47
 parted-short s i =
-    omega (arith, parted-length s i, pick-most (shows (i .shown)) (length s + length (itemText i)), item-short i)
+    omega (arith, parted-length s i, cond-most (shows (i .shown)) (length s + length (itemText i)), item-short i)
 
 pub line-short : (l : Line) → length (lineText l) ≤ 256
 line-short l =
@@ -51,7 +51,7 @@ line-short l =
       head-length (l .head),
       prefixes-short (l .head),
       name-short (l .head .name),
-      pick-most (l .head .suffix) 1,
+      cond-most (l .head .suffix) 1,
       items-length is,
       parted-short (bytes " ") (is .a),
       parted-short (bytes ", ") (is .b),

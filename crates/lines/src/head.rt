@@ -3,16 +3,16 @@ ghost use mathlib.Core.Path.{_≡_};
 ghost use mathlib.Core.List.{_++_};
 ghost use Prim.Native.Nat.{_≤_};
 ghost use lib.ListN.{length};
+ghost use Rattle.names.specs.Opcodes.{MnemonicTable};
 ghost use Rattle.text.specs.Choice.{when};
-ghost use Rattle.text.specs.Words.{bytes, Table};
+ghost use Rattle.text.specs.Words.{bytes};
 ghost use Rattle.text.specs.Write.{Room, Put};
-ghost use Rattle.names.specs.Mnemonics.{mnemonics};
 ghost use Rattle.names.specs.Words.{prefixWord};
 ghost use Rattle.lines.specs.Text.{prefixesText, nameText, headText};
 use arrange::Head;
 use arrange::Name;
-use names::mnemonics::Letters;
-use names::mnemonics::Starts;
+use names::opcodes::Letters;
+use names::opcodes::Starts;
 
 // A word of the table of prefixes and a blank, where it is called for.
 fn put_prefix(buf: &mut [u8], at: usize, wanted: bool, k: u8) -> usize
@@ -46,12 +46,12 @@ fn put_prefixes(buf: &mut [u8], at: usize, h: Head) -> usize
 }
 
 fn put_name(buf: &mut [u8], at: usize, letters: &Letters, starts: &Starts, name: Name) -> usize
-    requires { ⌜ Table mnemonics (now letters) (now starts) ⌝ }
+    requires { ⌜ MnemonicTable (now letters) (now starts) ⌝ }
     requires { ⌜ Room (now buf) at (nameText name) ⌝ }
     ensures { λ r. ⌜ Put (now (buf .entry)) at (nameText name) r (now (buf .exit)) ⌝ }
 {
     match name {
-        Name::Opcode(opcode) => names::mnemonics::put_mnemonic(buf, at, letters, starts, opcode),
+        Name::Opcode(opcode) => names::opcodes::put_mnemonic(buf, at, letters, starts, opcode),
         Name::Feni => text::put_bytes(buf, at, b"feni"),
         Name::Fdisi => text::put_bytes(buf, at, b"fdisi"),
         Name::Fsetpm => text::put_bytes(buf, at, b"fsetpm"),
@@ -59,7 +59,7 @@ fn put_name(buf: &mut [u8], at: usize, letters: &Letters, starts: &Starts, name:
 }
 
 pub fn put_head(buf: &mut [u8], at: usize, letters: &Letters, starts: &Starts, h: Head) -> usize
-    requires { ⌜ Table mnemonics (now letters) (now starts) ⌝ }
+    requires { ⌜ MnemonicTable (now letters) (now starts) ⌝ }
     requires { ⌜ Room (now buf) at (headText h) ⌝ }
     ensures { λ r. ⌜ Put (now (buf .entry)) at (headText h) r (now (buf .exit)) ⌝ }
 {
@@ -81,12 +81,12 @@ fn prefixes_length(h: Head) -> usize
 }
 
 fn name_length(letters: &Letters, starts: &Starts, name: Name) -> usize
-    requires { ⌜ Table mnemonics (now letters) (now starts) ⌝ }
+    requires { ⌜ MnemonicTable (now letters) (now starts) ⌝ }
     ensures { λ r. ⌜ r ≡ length (nameText name) ⌝ }
     ensures { λ r. ⌜ r ≤ 13 ⌝ }
 {
     match name {
-        Name::Opcode(opcode) => names::mnemonics::mnemonic_length(letters, starts, opcode),
+        Name::Opcode(opcode) => names::opcodes::mnemonic_length(letters, starts, opcode),
         Name::Feni => 4,
         Name::Fdisi => 5,
         Name::Fsetpm => 6,
@@ -94,7 +94,7 @@ fn name_length(letters: &Letters, starts: &Starts, name: Name) -> usize
 }
 
 pub fn head_length(letters: &Letters, starts: &Starts, h: Head) -> usize
-    requires { ⌜ Table mnemonics (now letters) (now starts) ⌝ }
+    requires { ⌜ MnemonicTable (now letters) (now starts) ⌝ }
     ensures { λ r. ⌜ r ≡ length (headText h) ⌝ }
     ensures { λ r. ⌜ r ≤ 47 ⌝ }
 {

@@ -2,28 +2,27 @@
 ghost use mathlib.Core.Path.{_≡_};
 ghost use Prim.Native.Nat.{_≤_};
 ghost use lib.ListN.{length};
-ghost use Rattle.text.specs.Words.{Table};
+ghost use Rattle.names.specs.Opcodes.{MnemonicTable};
+ghost use Rattle.names.specs.Registers.{RegisterTable};
 ghost use Rattle.text.specs.Write.{Room, Put};
-ghost use Rattle.names.specs.Mnemonics.{mnemonics as names};
-ghost use Rattle.names.specs.Registers.{registers as regs};
 ghost use Rattle.lines.specs.Text.{lineText};
 use crate::head;
 use crate::shown;
 use arrange::Line;
-use names::mnemonics;
+use names::opcodes;
 use names::registers;
 
 pub fn put_line(
     buf: &mut [u8],
     at: usize,
-    name_letters: &mnemonics::Letters,
-    name_starts: &mnemonics::Starts,
+    name_letters: &opcodes::Letters,
+    name_starts: &opcodes::Starts,
     register_letters: &registers::Letters,
     register_starts: &registers::Starts,
     line: Line,
 ) -> usize
-    requires { ⌜ Table names (now «name_letters») (now «name_starts») ⌝ }
-    requires { ⌜ Table regs (now «register_letters») (now «register_starts») ⌝ }
+    requires { ⌜ MnemonicTable (now «name_letters») (now «name_starts») ⌝ }
+    requires { ⌜ RegisterTable (now «register_letters») (now «register_starts») ⌝ }
     requires { ⌜ Room (now buf) at (lineText line) ⌝ }
     ensures { λ r. ⌜ Put (now (buf .entry)) at (lineText line) r (now (buf .exit)) ⌝ }
 {
@@ -34,14 +33,14 @@ pub fn put_line(
 }
 
 pub fn line_length(
-    name_letters: &mnemonics::Letters,
-    name_starts: &mnemonics::Starts,
+    name_letters: &opcodes::Letters,
+    name_starts: &opcodes::Starts,
     register_letters: &registers::Letters,
     register_starts: &registers::Starts,
     line: Line,
 ) -> usize
-    requires { ⌜ Table names (now «name_letters») (now «name_starts») ⌝ }
-    requires { ⌜ Table regs (now «register_letters») (now «register_starts») ⌝ }
+    requires { ⌜ MnemonicTable (now «name_letters») (now «name_starts») ⌝ }
+    requires { ⌜ RegisterTable (now «register_letters») (now «register_starts») ⌝ }
     ensures { λ r. ⌜ r ≡ length (lineText line) ⌝ }
     ensures { λ r. ⌜ r ≤ 256 ⌝ }
 {

@@ -1,11 +1,10 @@
 // The operands, each behind what parts it from the text before.
+ghost use mathlib.Core.Bool.{cond};
 ghost use mathlib.Core.Path.{_≡_};
 ghost use Prim.Native.Nat.{_+_, _≤_};
 ghost use lib.ListN.{length};
-ghost use Rattle.text.specs.Choice.{pick};
-ghost use Rattle.text.specs.Words.{Table};
+ghost use Rattle.names.specs.Registers.{RegisterTable};
 ghost use Rattle.text.specs.Write.{Room, Put};
-ghost use Rattle.names.specs.Registers.{registers};
 ghost use Rattle.items.specs.Items.{itemText};
 ghost use Rattle.lines.specs.Text.{shows, partedText, itemsText};
 use names::registers::Letters;
@@ -41,7 +40,7 @@ pub fn put_parted(
     separator: &[u8],
     item: Item,
 ) -> usize
-    requires { ⌜ Table registers (now letters) (now starts) ⌝ }
+    requires { ⌜ RegisterTable (now letters) (now starts) ⌝ }
     requires { ⌜ Room (now buf) at (partedText (now separator) item) ⌝ }
     ensures { λ r. ⌜ Put (now (buf .entry)) at (partedText (now (separator .entry)) item) r (now (buf .exit)) ⌝ }
 {
@@ -55,7 +54,7 @@ pub fn put_parted(
 }
 
 pub fn put_items(buf: &mut [u8], at: usize, letters: &Letters, starts: &Starts, is: Items) -> usize
-    requires { ⌜ Table registers (now letters) (now starts) ⌝ }
+    requires { ⌜ RegisterTable (now letters) (now starts) ⌝ }
     requires { ⌜ Room (now buf) at (itemsText is) ⌝ }
     ensures { λ r. ⌜ Put (now (buf .entry)) at (itemsText is) r (now (buf .exit)) ⌝ }
 {
@@ -70,9 +69,9 @@ pub fn put_items(buf: &mut [u8], at: usize, letters: &Letters, starts: &Starts, 
 }
 
 fn parted_length(letters: &Letters, starts: &Starts, separator: usize, item: Item) -> usize
-    requires { ⌜ Table registers (now letters) (now starts) ⌝ }
+    requires { ⌜ RegisterTable (now letters) (now starts) ⌝ }
     requires { ⌜ separator ≤ 2 ⌝ }
-    ensures { λ r. ⌜ r ≡ pick (shows (item .shown)) (separator + length (itemText item)) 0 ⌝ }
+    ensures { λ r. ⌜ r ≡ cond (shows (item .shown)) (separator + length (itemText item)) 0 ⌝ }
     ensures { λ r. ⌜ r ≤ 49 ⌝ }
 {
     let shown = item.shown;
@@ -84,7 +83,7 @@ fn parted_length(letters: &Letters, starts: &Starts, separator: usize, item: Ite
 }
 
 pub fn items_length(letters: &Letters, starts: &Starts, is: Items) -> usize
-    requires { ⌜ Table registers (now letters) (now starts) ⌝ }
+    requires { ⌜ RegisterTable (now letters) (now starts) ⌝ }
     ensures { λ r. ⌜ r ≡ length (itemsText is) ⌝ }
     ensures { λ r. ⌜ r ≤ 196 ⌝ }
 {

@@ -1,7 +1,7 @@
 -- Laws of the lines of a listing: the line in front and those behind it, and how long they can be.
 -- Assumes nothing.
 use mathlib.Core.Path.{_≡_, refl, sym, ap, _∙_}
-use mathlib.Core.Bool.{Bool, true, false, _&&_}
+use mathlib.Core.Bool.{Bool, true, false, _&&_, cond}
 use mathlib.Core.List.{List, [], _∷_, _++_}
 use Prim.Native.Nat.{ℕ, zero, suc, _+_, _-_, _*_, _≤_, _<_}
 use native.Mathlib.Nat.{not-suc-le-zero}
@@ -9,14 +9,13 @@ use native.Mathlib.Omega.{arith}
 use lib.Dec.{leb, lit≤}
 use lib.ListN.{length, drop, length-append, length-drop}
 use borrow.Author.Tests.{leb-true}
-use Rattle.text.specs.Choice.{pick}
 use Rattle.text.specs.Words.{empty}
 use Rattle.listings.specs.Frames.{bodyLength, isWhole, bodyOf, frameSize}
 use Rattle.listings.specs.Lines.{recordLine, cutLine, frontLine, linesWithin, linesOf, listingText}
 use Rattle.listings.proofs.Answered.{record-line-short}
 
 -- what stands in front of some bytes is some bytes
-pick-some : (b : Bool) (m n : ℕ) → 0 < m → 0 < n → 0 < pick b m n
+pick-some : (b : Bool) (m n : ℕ) → 0 < m → 0 < n → 0 < cond b m n
 pick-some true m n h l = h
 pick-some false m n h l = l
 
@@ -27,7 +26,7 @@ frame-some xs h = pick-some (isWhole xs) (2 + bodyLength xs) (length xs) (omega 
 pub frame-within : (xs : List ℕ) → frameSize xs ≤ length xs
 frame-within xs = go (isWhole xs) refl
   where
-    go : (b : Bool) → isWhole xs ≡ b → pick b (2 + bodyLength xs) (length xs) ≤ length xs
+    go : (b : Bool) → isWhole xs ≡ b → cond b (2 + bodyLength xs) (length xs) ≤ length xs
     go true e = leb-true (2 + bodyLength xs) (length xs) (second (leb 2 (length xs)) (leb (2 + bodyLength xs) (length xs)) e)
       where
         second : (a b : Bool) → (a && b) ≡ true → b ≡ true
@@ -75,7 +74,7 @@ module _ (mode : ℕ) where
   unfolding frontLine
   front-most xs = go (isWhole xs)
     where
-      go : (b : Bool) → length (pick b (recordLine mode (bodyOf xs)) cutLine) ≤ 257
+      go : (b : Bool) → length (cond b (recordLine mode (bodyOf xs)) cutLine) ≤ 257
       go true = record-line-short mode (bodyOf xs)
       go false = lit≤ tt
 
@@ -84,7 +83,7 @@ module _ (mode : ℕ) where
   unfolding frontLine
   front-short xs h = go (isWhole xs)
     where
-      go : (b : Bool) → length (pick b (recordLine mode (bodyOf xs)) cutLine) ≤ 129 * pick b (2 + bodyLength xs) (length xs)
+      go : (b : Bool) → length (cond b (recordLine mode (bodyOf xs)) cutLine) ≤ 129 * cond b (2 + bodyLength xs) (length xs)
       go true = omega (arith, record-line-short mode (bodyOf xs))
       go false = omega (arith, h)
 

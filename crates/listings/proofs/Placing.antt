@@ -1,7 +1,7 @@
 -- What stands at a place of a listing: the cases of `frameAt`, and where its body lies.
 -- Assumes nothing.
 use mathlib.Core.Path.{_≡_, refl, sym, ap, ap₂, _∙_}
-use mathlib.Core.Bool.{Bool, true, false, _&&_}
+use mathlib.Core.Bool.{Bool, true, false, _&&_, cond}
 use mathlib.Core.List.{List}
 use Prim.Native.Nat.{ℕ, _+_, _-_, _*_, _^_, _≤_, _<_}
 use native.Mathlib.Nat.{add-zero, add-assoc}
@@ -10,7 +10,6 @@ use lib.Dec.{leb}
 use lib.ListN.{length, getD, take, drop, length-drop}
 use lib.Seq.{getD-drop, drop-drop}
 use borrow.Author.Tests.{le-leb, lt-leb, leb-true}
-use Rattle.text.specs.Choice.{pick}
 use Rattle.bodies.specs.Body.{byte, word}
 use Rattle.listings.specs.Frames.{bodyLength, isWhole, bodyOf, frameSize}
 use Rattle.listings.specs.Lines.{recordLine, cutLine, frontLine}
@@ -32,7 +31,7 @@ module _ (xs : List ℕ) (at : ℕ) where
       let short : length (drop at xs) < 2 + bodyLength (drop at xs) = rw (length-drop, word-drop xs at, ← e) (omega arith) in
       picked (leb 2 (length (drop at xs))) (Whole (at + 2) (at + 2 + bodyLength (drop at xs))) (lt-leb (2 + bodyLength (drop at xs)) (length (drop at xs)) short)
     where
-      picked : (a : Bool) {b : Bool} (f : Frame) → b ≡ false → pick (a && b) f Cut ≡ Cut
+      picked : (a : Bool) {b : Bool} (f : Frame) → b ≡ false → cond (a && b) f Cut ≡ Cut
       picked true f e = rw e
       picked false f e = refl
 
@@ -60,7 +59,7 @@ both-true false b e = (cc, cc)
 pub whole-at : (xs : List ℕ) (at : ℕ) {start end : ℕ} → at ≤ length xs → frameAt xs at ≡ Whole start end → WholeAt xs at start end
 whole-at xs at {start} {end} placed e = go (isWhole (drop at xs)) refl e
   where
-    go : (b : Bool) → isWhole (drop at xs) ≡ b → pick b (Whole (at + 2) (at + 2 + bodyLength (drop at xs))) Cut ≡ Whole start end → WholeAt xs at start end
+    go : (b : Bool) → isWhole (drop at xs) ≡ b → cond b (Whole (at + 2) (at + 2 + bodyLength (drop at xs))) Cut ≡ Whole start end → WholeAt xs at start end
     go false w e = absurd (let z : _≡_ {A = ℕ} 0 1 = cc in omega arith)
     go true w e =
         let from : start ≡ at + 2 = cc in
@@ -79,7 +78,7 @@ whole-at xs at {start} {end} placed e = go (isWhole (drop at xs)) refl e
 pub cut-at : (xs : List ℕ) (at : ℕ) → frameAt xs at ≡ Cut → isWhole (drop at xs) ≡ false
 cut-at xs at e = go (isWhole (drop at xs)) e
   where
-    go : (b : Bool) → pick b (Whole (at + 2) (at + 2 + bodyLength (drop at xs))) Cut ≡ Cut → b ≡ false
+    go : (b : Bool) → cond b (Whole (at + 2) (at + 2 + bodyLength (drop at xs))) Cut ≡ Cut → b ≡ false
     go false e = refl
     go true e = cc
 

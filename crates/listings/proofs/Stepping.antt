@@ -8,7 +8,7 @@ use native.Mathlib.Omega.{arith}
 use lib.ListN.{length, getD, take, drop}
 use lib.Dec.{eqb, ltb, lit≤}
 use borrow.Author.Tests.{lt-ltb, le-ltb, ltb-false, eq-eqb, ne-eqb}
-use Rattle.text.proofs.Choosing.{pick-by}
+use Rattle.text.proofs.Choosing.{cond-by}
 use Rattle.text.specs.Write.{Put}
 use Rattle.text.proofs.Putting.{put-as, put-none}
 use Rattle.bodies.specs.Body.{word}
@@ -85,17 +85,17 @@ pub bounded : (mode : ℕ) (stage : Stage) (xs : List ℕ) → Bounded (stepped 
 unfolding stepped
 bounded mode Version [] = silent Version 0 [] (lit≤ tt)
 bounded mode Version (v ∷ xs) =
-    pick-by (λ (t : Taken). Bounded t (v ∷ xs)) (eqb v 1) (λ e. silent Frames 1 (v ∷ xs) (omega arith)) (λ e. record { uses = omega arith; short = lit≤ tt })
+    cond-by (λ (t : Taken). Bounded t (v ∷ xs)) (eqb v 1) (λ e. silent Frames 1 (v ∷ xs) (omega arith)) (λ e. record { uses = omega arith; short = lit≤ tt })
 bounded mode Frames xs =
-    pick-by (λ (t : Taken). Bounded t xs) (ltb (length xs) 2) (λ e. silent Frames 0 xs (omega arith))
+    cond-by (λ (t : Taken). Bounded t xs) (ltb (length xs) 2) (λ e. silent Frames 0 xs (omega arith))
     (λ (two : ltb (length xs) 2 ≡ false).
-    pick-by (λ (t : Taken). Bounded t xs) (ltb 1289 (bodyLength xs)) (λ e. silent (Skip (bodyLength xs)) 2 xs (ltb-false (length xs) 2 two))
+    cond-by (λ (t : Taken). Bounded t xs) (ltb 1289 (bodyLength xs)) (λ e. silent (Skip (bodyLength xs)) 2 xs (ltb-false (length xs) 2 two))
     (λ e.
-    pick-by (λ (t : Taken). Bounded t xs) (ltb (length xs) (2 + bodyLength xs)) (λ e. silent Frames 0 xs (omega arith))
+    cond-by (λ (t : Taken). Bounded t xs) (ltb (length xs) (2 + bodyLength xs)) (λ e. silent Frames 0 xs (omega arith))
     (λ (all : ltb (length xs) (2 + bodyLength xs) ≡ false).
     record { uses = ltb-false (length xs) (2 + bodyLength xs) all; short = record-line-short mode (bodyOf xs) })))
 bounded mode (Skip left) xs =
-    pick-by (λ (t : Taken). Bounded t xs) (ltb (length xs) left) (λ e. silent (Skip (left - length xs)) (length xs) xs (omega arith))
+    cond-by (λ (t : Taken). Bounded t xs) (ltb (length xs) left) (λ e. silent (Skip (left - length xs)) (length xs) xs (omega arith))
     (λ (all : ltb (length xs) left ≡ false). record { uses = ltb-false (length xs) left all; short = lit≤ tt })
 bounded mode Done xs = silent Done (length xs) xs (omega arith)
 

@@ -10,7 +10,7 @@ use lib.ListN.{length, take, drop, length-append, length-drop, List·getD-append
 use lib.Seq.{drop-length, length-take-le, take-append-le, drop-append-le, drop-append-add, getD-take, getD-drop, drop-drop}
 use borrow.Author.Tests.{lt-ltb, le-ltb, le-leb, lt-leb, ne-eqb, ltb-true, ltb-false}
 use Rattle.text.specs.Choice.{when}
-use Rattle.text.proofs.Choosing.{pick-by}
+use Rattle.text.proofs.Choosing.{cond-by}
 use Rattle.text.specs.Words.{join}
 use Rattle.bodies.specs.Body.{byte, countOf}
 use Rattle.bodies.specs.Refusals.{lengthRefused}
@@ -63,7 +63,7 @@ length-stays xs ys h = rw (List·getD-append xs ys 0 0 (omega arith), List·getD
 module _ (mode : ℕ) (xs : List ℕ) where
   -- the lines of part of a frame
   lines-part : length xs < 2 + bodyLength xs → linesOf mode xs ≡ when (ltb 0 (length xs)) cutLine
-  lines-part h = pick-by (λ (t : List ℕ). linesOf mode xs ≡ t) (ltb 0 (length xs)) some none
+  lines-part h = cond-by (λ (t : List ℕ). linesOf mode xs ≡ t) (ltb 0 (length xs)) some none
     where
       cut : isWhole xs ≡ false
       cut = part-cut xs h
@@ -85,7 +85,7 @@ module _ (mode : ℕ) (xs : List ℕ) where
   -- the lines of a frame whose body is too long: its bytes only count
   lines-skip : mode ≤ 1 → Bytes xs → 2 ≤ length xs → 1289 < bodyLength xs → linesOf mode xs ≡ remaining mode (Skip (bodyLength xs)) (drop 2 xs)
   unfolding remaining
-  lines-skip known small two long = pick-by (λ (t : List ℕ). linesOf mode xs ≡ t) (ltb (length (drop 2 xs)) n) part whole
+  lines-skip known small two long = cond-by (λ (t : List ℕ). linesOf mode xs ≡ t) (ltb (length (drop 2 xs)) n) part whole
     where
       n : ℕ
       n = bodyLength xs
@@ -131,7 +131,7 @@ unfolding remaining listingText
 version-sound mode [] =
     record { within = lit≤ tt; alive = tt; keeps = λ known ys small. refl; ends = λ e. refl; short = λ e. lit≤ tt }
 version-sound mode (x ∷ xs) =
-    pick-by (Sound mode Version (x ∷ xs)) (eqb x 1) (λ e. sound-using (lit≤ tt) (omega arith) tt (λ known ys small. rw e))
+    cond-by (Sound mode Version (x ∷ xs)) (eqb x 1) (λ e. sound-using (lit≤ tt) (omega arith) tt (λ known ys small. rw e))
     (λ e. sound-using (lit≤ tt) (omega arith) tt (λ known ys small. rw e))
 
 module _ (mode : ℕ) (held : List ℕ) where
@@ -177,11 +177,11 @@ module _ (mode : ℕ) (held : List ℕ) where
 
   frame-sound : Sound mode Frames held (frameStep mode held)
   frame-sound =
-      pick-by S (ltb (length held) 2) (λ e. wait-sound (omega (arith, ltb-true)) (omega (arith, ltb-true)))
+      cond-by S (ltb (length held) 2) (λ e. wait-sound (omega (arith, ltb-true)) (omega (arith, ltb-true)))
       (λ e. let two : 2 ≤ length held = ltb-false (length held) 2 e in
-      pick-by S (ltb 1289 n) (λ e. long-sound two (ltb-true 1289 n e))
+      cond-by S (ltb 1289 n) (λ e. long-sound two (ltb-true 1289 n e))
       (λ e. let short : n ≤ 1289 = ltb-false 1289 n e in
-      pick-by S (ltb (length held) (2 + n)) (λ e. wait-sound (ltb-true (length held) (2 + n) e) (omega (arith, ltb-true (length held) (2 + n) e)))
+      cond-by S (ltb (length held) (2 + n)) (λ e. wait-sound (ltb-true (length held) (2 + n) e) (omega (arith, ltb-true (length held) (2 + n) e)))
       (λ e. whole-sound (ltb-false (length held) (2 + n) e))))
     where
       n : ℕ
@@ -232,7 +232,7 @@ unfolding stepped remaining
 step-sound mode Version held alive = version-sound mode held
 step-sound mode Frames held alive = frame-sound mode held
 step-sound mode (Skip left) held alive =
-    pick-by (Sound mode (Skip left) held) (ltb (length held) left) (λ e. skip-some-sound mode left held (ltb-true (length held) left e))
+    cond-by (Sound mode (Skip left) held) (ltb (length held) left) (λ e. skip-some-sound mode left held (ltb-true (length held) left e))
     (λ e. skip-all-sound mode left held alive (ltb-false (length held) left e))
 step-sound mode Done held alive =
     record {

@@ -1,11 +1,10 @@
 -- "records: a two-byte length, then that many body bytes. All numbers are big-endian."
 -- Assumes nothing.
-use mathlib.Core.Bool.{Bool, _&&_}
+use mathlib.Core.Bool.{Bool, _&&_, cond}
 use mathlib.Core.List.{List}
 use Prim.Native.Nat.{ℕ, _+_}
 use lib.Dec.{leb}
 use lib.ListN.{length, take, drop}
-use Rattle.text.specs.Choice.{pick}
 use Rattle.bodies.specs.Body.{word}
 
 -- the length that stands in front
@@ -22,4 +21,4 @@ bodyOf xs = take (bodyLength xs) (drop 2 xs)
 
 -- how many bytes belong to what stands in front: the whole frame, or all that is left of one that is cut
 abbrev pub frameSize : List ℕ → ℕ
-frameSize xs = pick (isWhole xs) (2 + bodyLength xs) (length xs)
+frameSize xs = cond (isWhole xs) (2 + bodyLength xs) (length xs)

@@ -1,12 +1,12 @@
 -- A listing that arrives in parts: what one step does with the bytes that are there.
 -- Assumes nothing.
 use mathlib.Core.Path.{_≡_}
-use mathlib.Core.Bool.{Bool, true, false}
+use mathlib.Core.Bool.{Bool, true, false, cond}
 use mathlib.Core.List.{List, [], _∷_, _++_}
 use Prim.Native.Nat.{ℕ, _+_, _-_}
 use lib.Dec.{eqb, ltb}
 use lib.ListN.{length, drop}
-use Rattle.text.specs.Choice.{pick, when}
+use Rattle.text.specs.Choice.{when}
 use Rattle.text.specs.Write.{Put}
 use Rattle.listings.specs.Frames.{bodyLength, bodyOf}
 use Rattle.listings.specs.Lines.{newline, refusedText, recordLine, cutLine, versionLine, linesOf, listingText}
@@ -25,20 +25,20 @@ taken stage used says = record { stage = stage; used = used; says = says }
 -- the version byte
 abbrev pub versionStep : List ℕ → Taken
 versionStep [] = taken Version 0 []
-versionStep (version ∷ xs) = pick (eqb version 1) (taken Frames 1 []) (taken Done 1 versionLine)
+versionStep (version ∷ xs) = cond (eqb version 1) (taken Frames 1 []) (taken Done 1 versionLine)
 
 -- a frame: nothing until it is whole; a body over 1,289 bytes, which is no record's, is only counted
 abbrev pub frameStep : ℕ → List ℕ → Taken
 frameStep mode xs =
-    pick (ltb (length xs) 2) (taken Frames 0 [])
-    (pick (ltb 1289 (bodyLength xs)) (taken (Skip (bodyLength xs)) 2 [])
-    (pick (ltb (length xs) (2 + bodyLength xs)) (taken Frames 0 [])
+    cond (ltb (length xs) 2) (taken Frames 0 [])
+    (cond (ltb 1289 (bodyLength xs)) (taken (Skip (bodyLength xs)) 2 [])
+    (cond (ltb (length xs) (2 + bodyLength xs)) (taken Frames 0 [])
     (taken Frames (2 + bodyLength xs) (recordLine mode (bodyOf xs)))))
 
 -- the bytes of such a body: it is refused once all of them have come by
 abbrev pub skipStep : ℕ → List ℕ → Taken
 skipStep left xs =
-    pick (ltb (length xs) left) (taken (Skip (left - length xs)) (length xs) [])
+    cond (ltb (length xs) left) (taken (Skip (left - length xs)) (length xs) [])
     (taken Frames left (refusedText 2 ++ newline))
 
 unfoldable pub stepped : ℕ → Stage → List ℕ → Taken
@@ -64,7 +64,7 @@ pub record Took (t : Taken) (before : List ℕ) (out : ℕ) (stage : Stage) (use
 unfoldable pub remaining : ℕ → Stage → List ℕ → List ℕ
 remaining mode Version xs = listingText mode xs
 remaining mode Frames xs = linesOf mode xs
-remaining mode (Skip left) xs = pick (ltb (length xs) left) cutLine (refusedText 2 ++ newline ++ linesOf mode (drop left xs))
+remaining mode (Skip left) xs = cond (ltb (length xs) left) cutLine (refusedText 2 ++ newline ++ linesOf mode (drop left xs))
 remaining mode Done xs = []
 
 -- The input cut into reads in any way, and what the steps write. `held` are the bytes that are there.

@@ -1,18 +1,15 @@
 // A whole listing in a lent buffer.
-ghost use mathlib.Core.List.{map};
 ghost use mathlib.Core.Path.{_≡_};
 ghost use Prim.Native.Nat.{_≤_};
 ghost use lib.ListN.{length, drop};
-ghost use Rattle.text.specs.Words.{Table};
-ghost use Rattle.names.specs.Mnemonics.{mnemonics as names};
-ghost use Rattle.names.specs.Registers.{registers as regs};
-ghost use Rattle.arms.specs.Arms.{number, arms as armTable};
+ghost use Rattle.names.specs.Opcodes.{MnemonicTable, ArmTable};
+ghost use Rattle.names.specs.Registers.{RegisterTable};
 ghost use Rattle.records.specs.Answers.{textOutcome, Gives};
 ghost use Rattle.listings.specs.Lines.{linesOf};
 ghost use Rattle.listings.specs.Listings.{listingOutcome};
 use crate::frames;
 use crate::walk;
-use names::mnemonics;
+use names::opcodes;
 use names::registers;
 use records::Answer;
 
@@ -28,18 +25,18 @@ fn print_fixed(fixed: &[u8], text: &mut [u8]) -> Answer
 }
 
 fn print_fitting(
-    name_letters: &mnemonics::Letters,
-    name_starts: &mnemonics::Starts,
+    name_letters: &opcodes::Letters,
+    name_starts: &opcodes::Starts,
     register_letters: &registers::Letters,
     register_starts: &registers::Starts,
-    arms: &[u8; 154],
+    arms: &opcodes::Arms,
     listing: &[u8],
     mode: u32,
     text: &mut [u8],
 ) -> Answer
-    requires { ⌜ Table names (now «name_letters») (now «name_starts») ⌝ }
-    requires { ⌜ Table regs (now «register_letters») (now «register_starts») ⌝ }
-    requires { ⌜ now arms ≡ map number armTable ⌝ }
+    requires { ⌜ MnemonicTable (now «name_letters») (now «name_starts») ⌝ }
+    requires { ⌜ RegisterTable (now «register_letters») (now «register_starts») ⌝ }
+    requires { ⌜ ArmTable (now arms) ⌝ }
     requires { ⌜ 1 ≤ length (now listing) ⌝ }
     requires { ⌜ length (linesOf mode (drop 1 (now listing))) ≤ length (now text) ⌝ }
     ensures { λ r. ⌜ Gives (textOutcome (linesOf mode (drop 1 (now (listing .entry)))) (now (text .entry))) r (now (text .exit)) ⌝ }
@@ -59,18 +56,18 @@ fn print_fitting(
 
 // The lines of a listing of the known version. They are measured first only where they might not fit.
 fn print_lines(
-    name_letters: &mnemonics::Letters,
-    name_starts: &mnemonics::Starts,
+    name_letters: &opcodes::Letters,
+    name_starts: &opcodes::Starts,
     register_letters: &registers::Letters,
     register_starts: &registers::Starts,
-    arms: &[u8; 154],
+    arms: &opcodes::Arms,
     listing: &[u8],
     mode: u32,
     text: &mut [u8],
 ) -> Answer
-    requires { ⌜ Table names (now «name_letters») (now «name_starts») ⌝ }
-    requires { ⌜ Table regs (now «register_letters») (now «register_starts») ⌝ }
-    requires { ⌜ now arms ≡ map number armTable ⌝ }
+    requires { ⌜ MnemonicTable (now «name_letters») (now «name_starts») ⌝ }
+    requires { ⌜ RegisterTable (now «register_letters») (now «register_starts») ⌝ }
+    requires { ⌜ ArmTable (now arms) ⌝ }
     requires { ⌜ (1 ≤ length (now listing)) × (length (now listing) ≤ 16777216) ⌝ }
     ensures { λ r. ⌜ Gives (textOutcome (linesOf mode (drop 1 (now (listing .entry)))) (now (text .entry))) r (now (text .exit)) ⌝ }
 {
@@ -111,18 +108,18 @@ fn print_lines(
 }
 
 pub fn print_listing(
-    name_letters: &mnemonics::Letters,
-    name_starts: &mnemonics::Starts,
+    name_letters: &opcodes::Letters,
+    name_starts: &opcodes::Starts,
     register_letters: &registers::Letters,
     register_starts: &registers::Starts,
-    arms: &[u8; 154],
+    arms: &opcodes::Arms,
     listing: &[u8],
     mode: u32,
     text: &mut [u8],
 ) -> Answer
-    requires { ⌜ Table names (now «name_letters») (now «name_starts») ⌝ }
-    requires { ⌜ Table regs (now «register_letters») (now «register_starts») ⌝ }
-    requires { ⌜ now arms ≡ map number armTable ⌝ }
+    requires { ⌜ MnemonicTable (now «name_letters») (now «name_starts») ⌝ }
+    requires { ⌜ RegisterTable (now «register_letters») (now «register_starts») ⌝ }
+    requires { ⌜ ArmTable (now arms) ⌝ }
     ensures { λ r. ⌜ Gives (listingOutcome mode (now (listing .entry)) (now (text .entry))) r (now (text .exit)) ⌝ }
 {
     if 1 < mode {

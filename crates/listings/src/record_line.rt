@@ -1,17 +1,15 @@
 // The line of one record of a listing: its text, or `; refused N`, and a newline.
-ghost use mathlib.Core.List.{map, _++_};
+ghost use mathlib.Core.List.{_++_};
 ghost use mathlib.Core.Path.{_≡_};
 ghost use Prim.Native.Nat.{_≤_};
 ghost use lib.ListN.{length};
-ghost use Rattle.text.specs.Words.{Table};
+ghost use Rattle.names.specs.Opcodes.{MnemonicTable, ArmTable};
+ghost use Rattle.names.specs.Registers.{RegisterTable};
 ghost use Rattle.text.specs.Write.{Room, Put};
-ghost use Rattle.names.specs.Mnemonics.{mnemonics as names};
-ghost use Rattle.names.specs.Registers.{registers as regs};
-ghost use Rattle.arms.specs.Arms.{number, arms as armTable};
 ghost use Rattle.lines.specs.Text.{lineText};
 ghost use Rattle.listings.specs.Lines.{newline, refusedText, recordLine};
 use arrange::Line;
-use names::mnemonics;
+use names::opcodes;
 use names::registers;
 use records::Judged;
 use records::direct;
@@ -28,16 +26,16 @@ fn put_refused(text: &mut [u8], at: usize, n: u8) -> usize
 }
 
 fn put_shown(
-    name_letters: &mnemonics::Letters,
-    name_starts: &mnemonics::Starts,
+    name_letters: &opcodes::Letters,
+    name_starts: &opcodes::Starts,
     register_letters: &registers::Letters,
     register_starts: &registers::Starts,
     line: Line,
     text: &mut [u8],
     at: usize,
 ) -> usize
-    requires { ⌜ Table names (now «name_letters») (now «name_starts») ⌝ }
-    requires { ⌜ Table regs (now «register_letters») (now «register_starts») ⌝ }
+    requires { ⌜ MnemonicTable (now «name_letters») (now «name_starts») ⌝ }
+    requires { ⌜ RegisterTable (now «register_letters») (now «register_starts») ⌝ }
     requires { ⌜ Room (now text) at (lineText line ++ newline) ⌝ }
     ensures { λ r. ⌜ Put (now (text .entry)) at (lineText line ++ newline) r (now (text .exit)) ⌝ }
 {
@@ -54,19 +52,19 @@ fn put_shown(
 }
 
 fn put_judged(
-    name_letters: &mnemonics::Letters,
-    name_starts: &mnemonics::Starts,
+    name_letters: &opcodes::Letters,
+    name_starts: &opcodes::Starts,
     register_letters: &registers::Letters,
     register_starts: &registers::Starts,
-    arms: &[u8; 154],
+    arms: &opcodes::Arms,
     body: &[u8],
     mode: u32,
     text: &mut [u8],
     at: usize,
 ) -> usize
-    requires { ⌜ Table names (now «name_letters») (now «name_starts») ⌝ }
-    requires { ⌜ Table regs (now «register_letters») (now «register_starts») ⌝ }
-    requires { ⌜ now arms ≡ map number armTable ⌝ }
+    requires { ⌜ MnemonicTable (now «name_letters») (now «name_starts») ⌝ }
+    requires { ⌜ RegisterTable (now «register_letters») (now «register_starts») ⌝ }
+    requires { ⌜ ArmTable (now arms) ⌝ }
     requires { ⌜ Room (now text) at (recordLine mode (now body)) ⌝ }
     ensures { λ r. ⌜ Put (now (text .entry)) at (recordLine mode (now (body .entry))) r (now (text .exit)) ⌝ }
 {
@@ -90,19 +88,19 @@ fn put_judged(
 
 // Its length: 12 bytes for a refusal.
 pub fn put_record_line(
-    name_letters: &mnemonics::Letters,
-    name_starts: &mnemonics::Starts,
+    name_letters: &opcodes::Letters,
+    name_starts: &opcodes::Starts,
     register_letters: &registers::Letters,
     register_starts: &registers::Starts,
-    arms: &[u8; 154],
+    arms: &opcodes::Arms,
     body: &[u8],
     mode: u32,
     text: &mut [u8],
     at: usize,
 ) -> usize
-    requires { ⌜ Table names (now «name_letters») (now «name_starts») ⌝ }
-    requires { ⌜ Table regs (now «register_letters») (now «register_starts») ⌝ }
-    requires { ⌜ now arms ≡ map number armTable ⌝ }
+    requires { ⌜ MnemonicTable (now «name_letters») (now «name_starts») ⌝ }
+    requires { ⌜ RegisterTable (now «register_letters») (now «register_starts») ⌝ }
+    requires { ⌜ ArmTable (now arms) ⌝ }
     requires { ⌜ Room (now text) at (recordLine mode (now body)) ⌝ }
     ensures { λ r. ⌜ Put (now (text .entry)) at (recordLine mode (now (body .entry))) r (now (text .exit)) ⌝ }
 {
@@ -135,17 +133,17 @@ pub fn put_record_line(
 }
 
 pub fn record_line_length(
-    name_letters: &mnemonics::Letters,
-    name_starts: &mnemonics::Starts,
+    name_letters: &opcodes::Letters,
+    name_starts: &opcodes::Starts,
     register_letters: &registers::Letters,
     register_starts: &registers::Starts,
-    arms: &[u8; 154],
+    arms: &opcodes::Arms,
     body: &[u8],
     mode: u32,
 ) -> usize
-    requires { ⌜ Table names (now «name_letters») (now «name_starts») ⌝ }
-    requires { ⌜ Table regs (now «register_letters») (now «register_starts») ⌝ }
-    requires { ⌜ now arms ≡ map number armTable ⌝ }
+    requires { ⌜ MnemonicTable (now «name_letters») (now «name_starts») ⌝ }
+    requires { ⌜ RegisterTable (now «register_letters») (now «register_starts») ⌝ }
+    requires { ⌜ ArmTable (now arms) ⌝ }
     ensures { λ r. ⌜ r ≡ length (recordLine mode (now (body .entry))) ⌝ }
 {
     match records::judge::judge(arms, body, mode) {

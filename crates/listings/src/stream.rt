@@ -1,19 +1,16 @@
 // A listing that arrives in parts: what the listing programs repeat. A frame can be longer than their buffer, but a body over
 // 1,289 bytes is refused by its length alone, so its bytes are only counted.
-ghost use mathlib.Core.List.{map};
 ghost use mathlib.Core.Path.{_≡_};
 ghost use Prim.Native.Nat.{_+_, _≤_};
 ghost use lib.ListN.{length};
-ghost use Rattle.text.specs.Words.{Table};
+ghost use Rattle.names.specs.Opcodes.{MnemonicTable, ArmTable};
+ghost use Rattle.names.specs.Registers.{RegisterTable};
 ghost use Rattle.text.specs.Write.{Room, Put};
-ghost use Rattle.names.specs.Mnemonics.{mnemonics as names};
-ghost use Rattle.names.specs.Registers.{registers as regs};
-ghost use Rattle.arms.specs.Arms.{number, arms as armTable};
 ghost use Rattle.listings.specs.Stream.{Took, versionStep, skipStep, frameStep, stepped, cutAt};
 use crate::Stage;
 use crate::Step;
 use crate::record_line;
-use names::mnemonics;
+use names::opcodes;
 use names::registers;
 
 fn step_version(input: &[u8], text: &mut [u8], out: usize) -> Step
@@ -63,19 +60,19 @@ fn step_skip(left: usize, input: &[u8], text: &mut [u8], out: usize) -> Step
 }
 
 fn step_frame(
-    name_letters: &mnemonics::Letters,
-    name_starts: &mnemonics::Starts,
+    name_letters: &opcodes::Letters,
+    name_starts: &opcodes::Starts,
     register_letters: &registers::Letters,
     register_starts: &registers::Starts,
-    arms: &[u8; 154],
+    arms: &opcodes::Arms,
     input: &[u8],
     mode: u32,
     text: &mut [u8],
     out: usize,
 ) -> Step
-    requires { ⌜ Table names (now «name_letters») (now «name_starts») ⌝ }
-    requires { ⌜ Table regs (now «register_letters») (now «register_starts») ⌝ }
-    requires { ⌜ now arms ≡ map number armTable ⌝ }
+    requires { ⌜ MnemonicTable (now «name_letters») (now «name_starts») ⌝ }
+    requires { ⌜ RegisterTable (now «register_letters») (now «register_starts») ⌝ }
+    requires { ⌜ ArmTable (now arms) ⌝ }
     requires { ⌜ out + 257 ≤ length (now text) ⌝ }
     ensures { λ r. ⌜ Took (frameStep mode (now (input .entry))) (now (text .entry)) out (r .stage) (r .used) (r .out) (now (text .exit)) ⌝ }
 {
@@ -121,20 +118,20 @@ fn step_frame(
 }
 
 pub fn step(
-    name_letters: &mnemonics::Letters,
-    name_starts: &mnemonics::Starts,
+    name_letters: &opcodes::Letters,
+    name_starts: &opcodes::Starts,
     register_letters: &registers::Letters,
     register_starts: &registers::Starts,
-    arms: &[u8; 154],
+    arms: &opcodes::Arms,
     stage: Stage,
     input: &[u8],
     mode: u32,
     text: &mut [u8],
     out: usize,
 ) -> Step
-    requires { ⌜ Table names (now «name_letters») (now «name_starts») ⌝ }
-    requires { ⌜ Table regs (now «register_letters») (now «register_starts») ⌝ }
-    requires { ⌜ now arms ≡ map number armTable ⌝ }
+    requires { ⌜ MnemonicTable (now «name_letters») (now «name_starts») ⌝ }
+    requires { ⌜ RegisterTable (now «register_letters») (now «register_starts») ⌝ }
+    requires { ⌜ ArmTable (now arms) ⌝ }
     requires { ⌜ out + 257 ≤ length (now text) ⌝ }
     ensures { λ r. ⌜ Took (stepped mode stage (now (input .entry))) (now (text .entry)) out (r .stage) (r .used) (r .out) (now (text .exit)) ⌝ }
 {

@@ -1,38 +1,35 @@
 // The lines of a listing's frames, one after the other.
-ghost use mathlib.Core.List.{map};
 ghost use mathlib.Core.Path.{_≡_};
 ghost use Prim.Native.Nat.{_<_, _≤_};
 ghost use lib.ListN.{length, drop};
-ghost use Rattle.text.specs.Words.{Table};
+ghost use Rattle.names.specs.Opcodes.{MnemonicTable, ArmTable};
+ghost use Rattle.names.specs.Registers.{RegisterTable};
 ghost use Rattle.text.specs.Write.{Room, Put};
-ghost use Rattle.names.specs.Mnemonics.{mnemonics as names};
-ghost use Rattle.names.specs.Registers.{registers as regs};
-ghost use Rattle.arms.specs.Arms.{number, arms as armTable};
 ghost use Rattle.listings.specs.Lines.{frontLine, linesOf};
 ghost use Rattle.listings.specs.Places.{Stepped, Measured};
 use crate::Frame;
 use crate::Next;
 use crate::frames;
 use crate::record_line;
-use names::mnemonics;
+use names::opcodes;
 use names::registers;
 
 // The line of what stands at a place.
 pub fn put_next(
-    name_letters: &mnemonics::Letters,
-    name_starts: &mnemonics::Starts,
+    name_letters: &opcodes::Letters,
+    name_starts: &opcodes::Starts,
     register_letters: &registers::Letters,
     register_starts: &registers::Starts,
-    arms: &[u8; 154],
+    arms: &opcodes::Arms,
     listing: &[u8],
     at: usize,
     mode: u32,
     text: &mut [u8],
     out: usize,
 ) -> Next
-    requires { ⌜ Table names (now «name_letters») (now «name_starts») ⌝ }
-    requires { ⌜ Table regs (now «register_letters») (now «register_starts») ⌝ }
-    requires { ⌜ now arms ≡ map number armTable ⌝ }
+    requires { ⌜ MnemonicTable (now «name_letters») (now «name_starts») ⌝ }
+    requires { ⌜ RegisterTable (now «register_letters») (now «register_starts») ⌝ }
+    requires { ⌜ ArmTable (now arms) ⌝ }
     requires { ⌜ at ≤ length (now listing) ⌝ }
     requires { ⌜ Room (now text) out (frontLine mode (drop at (now listing))) ⌝ }
     ensures { λ r. ⌜ Stepped mode (now (listing .entry)) at (now (text .entry)) out (r .at) (r .out) (now (text .exit)) ⌝ }
@@ -64,18 +61,18 @@ pub fn put_next(
 
 // Its length.
 fn next_length(
-    name_letters: &mnemonics::Letters,
-    name_starts: &mnemonics::Starts,
+    name_letters: &opcodes::Letters,
+    name_starts: &opcodes::Starts,
     register_letters: &registers::Letters,
     register_starts: &registers::Starts,
-    arms: &[u8; 154],
+    arms: &opcodes::Arms,
     listing: &[u8],
     at: usize,
     mode: u32,
 ) -> Next
-    requires { ⌜ Table names (now «name_letters») (now «name_starts») ⌝ }
-    requires { ⌜ Table regs (now «register_letters») (now «register_starts») ⌝ }
-    requires { ⌜ now arms ≡ map number armTable ⌝ }
+    requires { ⌜ MnemonicTable (now «name_letters») (now «name_starts») ⌝ }
+    requires { ⌜ RegisterTable (now «register_letters») (now «register_starts») ⌝ }
+    requires { ⌜ ArmTable (now arms) ⌝ }
     requires { ⌜ at ≤ length (now listing) ⌝ }
     ensures { λ r. ⌜ Measured mode (now (listing .entry)) at (r .at) (r .out) ⌝ }
 {
@@ -101,18 +98,18 @@ fn next_length(
 
 // All lines behind the version byte.
 pub fn put_lines(
-    name_letters: &mnemonics::Letters,
-    name_starts: &mnemonics::Starts,
+    name_letters: &opcodes::Letters,
+    name_starts: &opcodes::Starts,
     register_letters: &registers::Letters,
     register_starts: &registers::Starts,
-    arms: &[u8; 154],
+    arms: &opcodes::Arms,
     listing: &[u8],
     mode: u32,
     text: &mut [u8],
 ) -> usize
-    requires { ⌜ Table names (now «name_letters») (now «name_starts») ⌝ }
-    requires { ⌜ Table regs (now «register_letters») (now «register_starts») ⌝ }
-    requires { ⌜ now arms ≡ map number armTable ⌝ }
+    requires { ⌜ MnemonicTable (now «name_letters») (now «name_starts») ⌝ }
+    requires { ⌜ RegisterTable (now «register_letters») (now «register_starts») ⌝ }
+    requires { ⌜ ArmTable (now arms) ⌝ }
     requires { ⌜ 1 ≤ length (now listing) ⌝ }
     requires { ⌜ Room (now text) 0 (linesOf mode (drop 1 (now listing))) ⌝ }
     ensures { λ r. ⌜ Put (now (text .entry)) 0 (linesOf mode (drop 1 (now (listing .entry)))) r (now (text .exit)) ⌝ }
@@ -139,17 +136,17 @@ pub fn put_lines(
 }
 
 pub fn lines_length(
-    name_letters: &mnemonics::Letters,
-    name_starts: &mnemonics::Starts,
+    name_letters: &opcodes::Letters,
+    name_starts: &opcodes::Starts,
     register_letters: &registers::Letters,
     register_starts: &registers::Starts,
-    arms: &[u8; 154],
+    arms: &opcodes::Arms,
     listing: &[u8],
     mode: u32,
 ) -> usize
-    requires { ⌜ Table names (now «name_letters») (now «name_starts») ⌝ }
-    requires { ⌜ Table regs (now «register_letters») (now «register_starts») ⌝ }
-    requires { ⌜ now arms ≡ map number armTable ⌝ }
+    requires { ⌜ MnemonicTable (now «name_letters») (now «name_starts») ⌝ }
+    requires { ⌜ RegisterTable (now «register_letters») (now «register_starts») ⌝ }
+    requires { ⌜ ArmTable (now arms) ⌝ }
     requires { ⌜ (1 ≤ length (now listing)) × (length (now listing) ≤ 16777216) ⌝ }
     ensures { λ r. ⌜ r ≡ length (linesOf mode (drop 1 (now (listing .entry)))) ⌝ }
 {

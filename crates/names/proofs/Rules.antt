@@ -9,7 +9,7 @@ use lib.Dec.{T, leb}
 use lib.ListN.{length, getD}
 use Rattle.text.specs.Words.{every, ascend, distinct, empty, starts}
 use Rattle.text.proofs.Tables.{both-left, both-right, every-at, distinct-at}
-use Rattle.names.specs.Mnemonics.{mnemonics, mnemonic}
+use Rattle.names.specs.Opcodes.{mnemonics, mnemonic, opcodes}
 use Rattle.names.specs.Registers.{segments, registers, registerName}
 use Rattle.names.specs.Words.{labels, prefixes}
 use Rattle.names.specs.Rules.{letter, registerLetter, nameOf, namesRule, registersRule}
@@ -17,7 +17,7 @@ use Rattle.names.specs.Rules.{letter, registerLetter, nameOf, namesRule,
 -- the tables
 
 pub mnemonics-keep : T (namesRule 13 mnemonics)
-unfolding namesRule mnemonics
+unfolding namesRule mnemonics opcodes
 mnemonics-keep = tt
 
 pub labels-keep : T (namesRule 7 labels)
@@ -67,16 +67,16 @@ module _ (n : ℕ) (words : List (List ℕ)) (keep : T (namesRule n words)) wher
 
 -- the mnemonic of each opcode
 pub mnemonic-some : (k : ℕ) → k < 154 → T (not (empty (mnemonic k)))
-unfolding mnemonic mnemonics
+unfolding mnemonic mnemonics opcodes
 mnemonic-some k h = name-some 13 mnemonics mnemonics-keep k h
 
 pub mnemonic-letters : (k : ℕ) → k < 154 → T (every letter (mnemonic k))
-unfolding mnemonic mnemonics
+unfolding mnemonic mnemonics opcodes
 mnemonic-letters k h = name-letters 13 mnemonics mnemonics-keep k h
 
 -- two opcodes have two names
 pub mnemonic-alone : (j k : ℕ) → j < k → k < 154 → mnemonic j ≡ mnemonic k → ⊥
-unfolding mnemonic mnemonics
+unfolding mnemonic mnemonics opcodes
 mnemonic-alone j k l h e = name-alone 13 mnemonics mnemonics-keep j k l h e
 
 -- two registers have two names

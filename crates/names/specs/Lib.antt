@@ -1,5 +1,5 @@
 -- The words of a line. Definitions only: the laws are in proofs/.
-pub mod Mnemonics
+pub mod Opcodes
 pub mod Registers
 pub mod Words
 pub mod Rules

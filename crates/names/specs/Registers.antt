@@ -3,7 +3,7 @@
 use mathlib.Core.List.{List, [], _∷_, _++_}
 use Prim.Native.Nat.{ℕ}
 use lib.ListN.{getD}
-use Rattle.text.specs.Words.{bytes}
+use Rattle.text.specs.Words.{bytes, Table}
 
 -- bank 3
 abbrev pub bank3 : List (List ℕ)
@@ -25,6 +25,10 @@ registers =
 -- the name of a register byte; "64 up are no register"
 unfoldable pub registerName : ℕ → List ℕ
 registerName reg = getD registers reg []
+
+-- the table as the code holds and lends it
+abbrev pub RegisterTable : List ℕ → List ℕ → Type 0
+RegisterTable letters starts = Table registers letters starts
 
 -- "0 for none or 1 to 6 for es cs ss ds fs gs"
 unfoldable pub segments : List (List ℕ)

@@ -2,7 +2,49 @@
 // that are used for each record are made once, above the loop over the records, and lent from there: a constant is stored to the
 // stack at each use. The others are small enough not to matter.
 pub mod labels;
-pub mod mnemonics;
+pub mod opcodes;
 pub mod prefixes;
 pub mod registers;
 pub mod segments;
+
+// The arms of document 000 in its order, after the variants of its general path. Where two opcodes of one arm print different
+// names or suffixes, they are arms of their own, so that after this the opcode serves for the name alone.
+pub enum Arm {
+    General,
+    Qword,
+    Mmword,
+    Jmpf,
+    Callf,
+    Lds,
+    Movs,
+    Cmps,
+    Branch,
+    Xbegin,
+    Feni,
+    Fdisi,
+    Fsetpm,
+    Hreset,
+    Lsl,
+    Prefetch,
+    Sgdt,
+    Lss,
+    Nop,
+    Monitor,
+    Mwait,
+    Invlpgb,
+    Rdpru,
+    Scas,
+    Lods,
+    Psmash,
+    Pvalidate,
+    Incssp,
+    Wrss,
+    Pblendvb,
+    Lea,
+    Pushf,
+    Aam,
+    Fcom,
+    Fadd,
+    Fbld,
+    Fbstp,
+}

@@ -3,8 +3,8 @@ ghost use mathlib.Core.Path.{_≡_};
 ghost use Prim.Native.Nat.{_≤_};
 ghost use lib.ListN.{length};
 ghost use Rattle.text.specs.Write.{Room, Put};
-ghost use Rattle.text.specs.Words.{join, starts as startsOf, Table};
-ghost use Rattle.names.specs.Registers.{registers, registerName};
+ghost use Rattle.text.specs.Words.{join, starts as startsOf};
+ghost use Rattle.names.specs.Registers.{registers, registerName, RegisterTable};
 use text::words;
 
 pub type Letters = [u8; 196];
@@ -96,7 +96,7 @@ pub fn starts() -> Starts
 
 // The name of a register. A byte that is no register has none.
 pub fn put_register(buf: &mut [u8], at: usize, letters: &Letters, starts: &Starts, reg: u8) -> usize
-    requires { ⌜ Table registers (now letters) (now starts) ⌝ }
+    requires { ⌜ RegisterTable (now letters) (now starts) ⌝ }
     requires { ⌜ Room (now buf) at (registerName reg) ⌝ }
     ensures { λ r. ⌜ Put (now (buf .entry)) at (registerName reg) r (now (buf .exit)) ⌝ }
 {
@@ -108,7 +108,7 @@ pub fn put_register(buf: &mut [u8], at: usize, letters: &Letters, starts: &Start
 }
 
 pub fn register_length(letters: &Letters, starts: &Starts, reg: u8) -> usize
-    requires { ⌜ Table registers (now letters) (now starts) ⌝ }
+    requires { ⌜ RegisterTable (now letters) (now starts) ⌝ }
     ensures { λ r. ⌜ r ≡ length (registerName reg) ⌝ }
     ensures { λ r. ⌜ r ≤ 5 ⌝ }
 {

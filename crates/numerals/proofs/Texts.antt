@@ -1,33 +1,33 @@
 -- Laws of the texts: their lengths.
 -- Assumes nothing.
 use mathlib.Core.Path.{_≡_, refl, sym, ap, _∙_}
-use mathlib.Core.Bool.{Bool}
+use mathlib.Core.Bool.{Bool, cond}
 use mathlib.Core.List.{List, [], _∷_, _++_}
 use Prim.Native.Nat.{ℕ, _+_, _≤_}
 use native.Mathlib.Omega.{arith}
 use lib.IntN.{ℤ, pos, negsuc, natAbs}
 use lib.Dec.{leb}
 use lib.ListN.{length, length-append}
-use Rattle.text.specs.Choice.{pick, when}
+use Rattle.text.specs.Choice.{when}
 use Rattle.text.specs.Words.{bytes}
 use Rattle.text.proofs.Choosing.{length-when}
 use Rattle.numerals.specs.Digits.{digits, places, top, TopOf}
 use Rattle.numerals.specs.Numerals.{needsLeading0, hexAmbiguous, figure, numeral, sign, displacement, absolute}
 use Rattle.numerals.proofs.Places.{length-digits}
 
-pub length-figure : (k v : ℕ) → length (figure k v) ≡ pick (needsLeading0 k v) 1 0 + k
+pub length-figure : (k v : ℕ) → length (figure k v) ≡ cond (needsLeading0 k v) 1 0 + k
 unfolding figure
 length-figure k v =
     length-append (when (needsLeading0 k v) (bytes "0")) (digits k v)
     ∙ rw (length-when (needsLeading0 k v) (bytes "0"), length-digits k v)
 
-pub length-numeral : (v : ℕ) → length (numeral v) ≡ pick (needsLeading0 (places v) v) 1 0 + places v + pick (hexAmbiguous v) 1 0
+pub length-numeral : (v : ℕ) → length (numeral v) ≡ cond (needsLeading0 (places v) v) 1 0 + places v + cond (hexAmbiguous v) 1 0
 unfolding numeral
 length-numeral v =
     length-append (figure (places v) v) (when (hexAmbiguous v) (bytes "h"))
     ∙ rw (length-figure (places v) v, length-when (hexAmbiguous v) (bytes "h"))
 
-pub length-absolute : (k v : ℕ) → length (absolute k v) ≡ pick (needsLeading0 k v) 1 0 + k + 1
+pub length-absolute : (k v : ℕ) → length (absolute k v) ≡ cond (needsLeading0 k v) 1 0 + k + 1
 unfolding absolute
 length-absolute k v = length-append (figure k v) (bytes "h") ∙ rw (length-figure k v)
 
@@ -52,7 +52,7 @@ pub numeral-by : {v n d : ℕ} {h : Bool} → TopOf v n d → h ≡ hexAmbiguous
 unfolding numeral
 numeral-by t e = rw (t .count, e)
 
-pub length-numeral-by : {v n d : ℕ} → TopOf v n d → length (numeral v) ≡ pick (leb 10 d) 1 0 + n + pick (hexAmbiguous v) 1 0
+pub length-numeral-by : {v n d : ℕ} → TopOf v n d → length (numeral v) ≡ cond (leb 10 d) 1 0 + n + cond (hexAmbiguous v) 1 0
 length-numeral-by {v} t = length-numeral v ∙ rw (t .first, t .count)
 
 -- a displacement as the code has it at hand: `d` once more, and its size

@@ -1,14 +1,14 @@
 -- Hexadecimal digits by place value.
 -- Assumes nothing.
+use mathlib.Core.Bool.{cond}
 use mathlib.Core.Path.{_≡_}
 use mathlib.Core.List.{List, [], _∷_, _++_}
 use Prim.Native.Nat.{ℕ, zero, suc, _+_, _-_, _/_, _%_, _^_, _≤_}
 use lib.Dec.{ltb}
-use Rattle.text.specs.Choice.{pick}
 
 -- "upper-case hex": the digit of a number below 16, 0 to 9 and then A to F
 unfoldable pub digit : ℕ → ℕ
-digit d = pick (ltb d 10) (48 + d) (55 + d)
+digit d = cond (ltb d 10) (48 + d) (55 + d)
 
 -- the last k digits of v, the top one first
 unfoldable pub digits : ℕ → ℕ → List ℕ
@@ -18,7 +18,7 @@ digits (suc k) v = digits k (v / 16) ++ (digit (v % 16) ∷ [])
 -- the first of n, n + 1, .., n + k places in which v can be written; n + k where it is none of those before
 unfoldable pub placesFrom : ℕ → ℕ → ℕ → ℕ
 placesFrom n zero v = n
-placesFrom n (suc k) v = pick (ltb v (16 ^ n)) n (placesFrom (suc n) k v)
+placesFrom n (suc k) v = cond (ltb v (16 ^ n)) n (placesFrom (suc n) k v)
 
 -- "without needless zeros": the fewest places for a number of 32 bits, at least one and at most eight
 unfoldable pub places : ℕ → ℕ

@@ -18,8 +18,8 @@ use Rattle.arms.specs.Parts.{labelled, sizeLabel, immediateKind, immediateOf, n
 use Rattle.arms.specs.General.{generalLabel, general, generally, hasVector, laterWithoutDs}
 use Rattle.arms.specs.Rewritten.{isBranch, isXbegin, branch, lslSource, lsl, lssLabel, tbyteLabel, st, fadd, fbld}
 use Rattle.arms.specs.Shows.{itemsOf}
-use Rattle.arms.specs.declared.Arm.{Arm}
-use Rattle.arms.specs.declared.Arm.the-variants.{
+use Rattle.names.specs.declared.Arm.{Arm}
+use Rattle.names.specs.declared.Arm.the-variants.{
   General,
   Qword,
   Mmword,

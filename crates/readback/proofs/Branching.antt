@@ -16,11 +16,11 @@ use Rattle.operands.specs.declared.Instruction.{Instruction}
 use Rattle.bodies.specs.WellFormed.{Kept, WellFormed}
 use Rattle.bodies.proofs.Accepted.{record-kept}
 use Rattle.branches.specs.Sums.{signed, branchSum, branchShown, from128to255}
-use Rattle.arms.specs.Arms.{arms, armOf}
+use Rattle.names.specs.Opcodes.{arms, armOf, opcodes}
 use Rattle.arms.specs.Parts.{immediateKind, immediateOf}
 use Rattle.arms.specs.Rewritten.{isBranch, isXbegin, branch as branch-items}
 use Rattle.arms.specs.Shows.{itemsOf}
-use Rattle.arms.specs.declared.Arm.the-variants.{General, Branch, Xbegin}
+use Rattle.names.specs.declared.Arm.the-variants.{General, Branch, Xbegin}
 use Rattle.arrange.specs.declared.Line.{Line}
 use Rattle.arrange.proofs.Arranging.{accepted}
 use Rattle.lines.specs.Text.{lineText}
@@ -35,11 +35,11 @@ use Rattle.readback.proofs.Readback.{reads-back}
 -- ---- What the line of a branch record shows
 
 relative : (k : ℕ) → k < 22 → armOf k ≡ Branch
-unfolding armOf arms
+unfolding armOf arms opcodes
 relative k h = List·getD-append (replicate 22 Branch) (drop 22 arms) General k h ∙ getD-replicate 22 k Branch General h
 
 transaction : armOf 22 ≡ Xbegin
-unfolding armOf arms
+unfolding armOf arms opcodes
 transaction = refl
 
 module _ (straight : Bool) (i : Instruction) where

@@ -12,7 +12,7 @@ use lib.Ieee.Bits.{is-true}
 use Rattle.text.specs.Words.{bytes}
 use Rattle.numerals.specs.Digits.{digit, digits, placesFrom, places}
 use Rattle.numerals.specs.Numerals.{figure, numeral}
-use Rattle.names.specs.Mnemonics.{mnemonics, mnemonic}
+use Rattle.names.specs.Opcodes.{mnemonics, mnemonic, opcodes}
 use Rattle.operands.specs.declared.Operand.the-variants.{Absent, Imm}
 use Rattle.operands.specs.declared.Instruction.{Instruction}
 use Rattle.operands.specs.declared.Shown.the-variants as shown
@@ -22,7 +22,7 @@ use Rattle.bodies.specs.Refusals.{lengthRefused, segmentKept, firstKept, second
 use Rattle.bodies.specs.Decoding.{immediate, operandOf, operandAt, instructionOf, decoded}
 use Rattle.bodies.specs.WellFormed.{Bytes}
 use Rattle.branches.specs.Sums.{signed, branchSum, branchShown}
-use Rattle.arms.specs.Arms.{arms, armOf}
+use Rattle.names.specs.Opcodes.{arms, armOf}
 use Rattle.arms.specs.Parts.{bare, one}
 use Rattle.arms.specs.Shows.{itemsOf}
 use Rattle.arrange.specs.Shape.{shapeRefused}
@@ -60,11 +60,11 @@ bytes-kept (x ∷ xs) h (suc at) = let (a, b) = both (ltb x (2 ^ 8)) (all (λ b.
 
 -- the body is printed in mode 0
 pub jump-printed : Printed shortJump false jumpRecord jumpLine
-unfolding decoded lengthRefused fieldRefused operandRefused segmentKept firstKept secondKept scaleKept instructionOf operandAt operandOf immediate arrangedBy shapeRefused sizeRefused headOf itemsOf armOf arms branchShown branchSum signed
+unfolding decoded lengthRefused fieldRefused operandRefused segmentKept firstKept secondKept scaleKept instructionOf operandAt operandOf immediate arrangedBy shapeRefused sizeRefused headOf itemsOf armOf arms branchShown branchSum signed opcodes
 jump-printed = record { bytes = bytes-kept shortJump tt; recorded = refl; arranges = refl }
 
 pub jump-text : lineText jumpLine ≡ bytes "jmp $-80h"
-unfolding lineText headText prefixesText nameText mnemonic mnemonics itemsText partedText itemText labelText segmentText shownText branchText numeral figure places placesFrom digits digit
+unfolding lineText headText prefixesText nameText mnemonic mnemonics itemsText partedText itemText labelText segmentText shownText branchText numeral figure places placesFrom digits digit opcodes
 jump-text = refl
 
 -- and is read as a branch to the record's target from no start

@@ -11,7 +11,7 @@ use borrow.Author.Tests.{ne-eqb, lt-ltb}
 use lib.Dec.{T, eqb}
 use Rattle.text.specs.Choice.{when}
 use Rattle.text.specs.Words.{bytes}
-use Rattle.names.specs.Mnemonics.{mnemonics, mnemonic}
+use Rattle.names.specs.Opcodes.{mnemonics, mnemonic, opcodes}
 use Rattle.names.specs.Registers.{registers as register-names, registerName, segments as segment-names, segmentName}
 use Rattle.operands.specs.declared.Label.{Label}
 use Rattle.operands.specs.declared.Label.the-variants as label
@@ -115,7 +115,7 @@ repne = prefix-word (bytes "repne") (bytes "repne ") Repne tt refl refl
 
 -- every opcode's name is a mnemonic, and so it is with a `d` behind it
 mnemonics-read : T (below 154 (λ k. isMnemonic (mnemonic k) && isMnemonic (mnemonic k ++ bytes "d")))
-unfolding isMnemonic tokens prefixWords mnemonic mnemonics
+unfolding isMnemonic tokens prefixWords mnemonic mnemonics opcodes
 mnemonics-read = tt
 
 opcode-name : (k : ℕ) (d : Bool) → k < 154 → T (isMnemonic (mnemonic k ++ when d (bytes "d")))

@@ -13,9 +13,9 @@ use Rattle.bodies.specs.Decoding.{instructionOf, decoded}
 use Rattle.bodies.specs.WellFormed.{Bytes, WellFormed}
 use Rattle.bodies.proofs.Picks.{picked}
 use Rattle.bodies.proofs.Accepted.{record-kept}
-use Rattle.arms.specs.Arms.{armOf}
-use Rattle.arms.specs.declared.Arm.{Arm}
-use Rattle.arms.specs.declared.Arm.the-variants.{Jmpf, Callf, Feni as FeniArm, Fdisi as FdisiArm, Fsetpm as FsetpmArm}
+use Rattle.names.specs.Opcodes.{armOf}
+use Rattle.names.specs.declared.Arm.{Arm}
+use Rattle.names.specs.declared.Arm.the-variants.{Jmpf, Callf, Feni as FeniArm, Fdisi as FdisiArm, Fsetpm as FsetpmArm}
 use Rattle.arrange.specs.Among.{same}
 use Rattle.arrange.specs.Head.{nameOf, headOf}
 use Rattle.arrange.specs.Shape.{shapeRefused}

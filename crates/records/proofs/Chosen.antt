@@ -13,13 +13,13 @@ use Rattle.bodies.specs.Refusals.{lengthRefused, fieldRefused, Whole}
 use Rattle.bodies.specs.Decoding.{instructionOf}
 use Rattle.bodies.proofs.Lengths.{whole}
 use Rattle.bodies.proofs.Picks.{neither-left, neither-right}
-use Rattle.arms.specs.Arms.{number}
+use Rattle.names.specs.Opcodes.{number}
 use Rattle.arms.specs.General.{generalLabel, general, hasVector}
 use Rattle.arms.specs.Rewritten.{isBranch}
 use Rattle.arms.specs.Shows.{itemsOf}
-use Rattle.arms.specs.declared.Arm.{Arm}
-use Rattle.arms.specs.declared.Arm.the-variants as arm
-use Rattle.arms.proofs.Numbered.{armAt, at-number}
+use Rattle.names.specs.declared.Arm.{Arm}
+use Rattle.names.specs.declared.Arm.the-variants as arm
+use Rattle.names.proofs.ArmNumbers.{armAt, at-number}
 use Rattle.arrange.specs.Among.{same}
 use Rattle.arrange.specs.Line.{lineOf}
 use Rattle.arrange.specs.Shape.{shapeRefused}

@@ -28,7 +28,7 @@ use Rattle.branches.specs.Sums.{branchShown}
 use Rattle.arms.specs.General.{generalLabel, general}
 use Rattle.arms.specs.Parts.{bare, labelledMemory, four}
 use Rattle.arms.specs.Rewritten.{isBranch}
-use Rattle.arms.specs.declared.Arm.the-variants as arm
+use Rattle.names.specs.declared.Arm.the-variants as arm
 use Rattle.arrange.specs.Head.{headOf}
 use Rattle.lines.specs.Text.{shows, partedText, itemsText, headText, lineText}
 use Rattle.records.specs.Direct.{separator, operandsFrom, generalLine, branchLine}

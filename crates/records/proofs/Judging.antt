@@ -4,7 +4,6 @@ use mathlib.Core.Path.{_≡_, refl, sym, ap, _∙_}
 use mathlib.Core.Bool.{Bool, true, false, cond}
 use mathlib.Core.List.{List, [], _∷_}
 use Prim.Native.Nat.{ℕ}
-use Rattle.text.specs.Choice.{pick}
 use Rattle.bodies.specs.Refusals.{lengthRefused, fieldRefused}
 use Rattle.bodies.specs.Decoding.{instructionOf, decoded}
 use Rattle.bodies.specs.declared.Decoded.{Decoded}
@@ -24,7 +23,7 @@ use Rattle.records.specs.declared.Judged.the-variants.{Mode, Length, Fie
 
 -- the first of five refusals, or the line
 abbrev five : Bool → Bool → Bool → Bool → Bool → Line → Judged
-five m l f s z line = pick m Mode (pick l Length (pick f Field (pick s Shape (pick z Size (Shown line)))))
+five m l f s z line = cond m Mode (cond l Length (cond f Field (cond s Shape (cond z Size (Shown line)))))
 
 -- the number of a refusal; of a line, what is left to be asked
 abbrev pub numbered : Judged → List Bool → ℕ
@@ -80,12 +79,12 @@ judgedBy mode LengthRefused = Length
 judgedBy mode FieldRefused = Field
 judgedBy mode (Record i) = judgedAs (arranged (straight mode) i)
 
-arranged-picks : (s z : Bool) (line : Line) → judgedAs (cond s ShapeRefused (cond z SizeRefused (LineShown line))) ≡ pick s Shape (pick z Size (Shown line))
+arranged-picks : (s z : Bool) (line : Line) → judgedAs (cond s ShapeRefused (cond z SizeRefused (LineShown line))) ≡ cond s Shape (cond z Size (Shown line))
 arranged-picks true z line = refl
 arranged-picks false true line = refl
 arranged-picks false false line = refl
 
-decoded-picks : (mode : ℕ) (l f : Bool) (i : Instruction) → judgedBy mode (cond l LengthRefused (cond f FieldRefused (Record i))) ≡ pick l Length (pick f Field (judgedAs (arranged (straight mode) i)))
+decoded-picks : (mode : ℕ) (l f : Bool) (i : Instruction) → judgedBy mode (cond l LengthRefused (cond f FieldRefused (Record i))) ≡ cond l Length (cond f Field (judgedAs (arranged (straight mode) i)))
 decoded-picks mode true f i = refl
 decoded-picks mode false true i = refl
 decoded-picks mode false false i = refl
@@ -95,7 +94,7 @@ unfolding judged decoded arrangedBy lineAt
 judged-body mode body e =
     rw e
     (sym (decoded-picks mode (lengthRefused body) (fieldRefused body) (instructionOf body)
-    ∙ ap (λ (j : Judged). pick (lengthRefused body) Length (pick (fieldRefused body) Field j))
+    ∙ ap (λ (j : Judged). cond (lengthRefused body) Length (cond (fieldRefused body) Field j))
     (arranged-picks (shapeRefused (armAt body) (instructionOf body)) (sizeRefused (armAt body) (instructionOf body)) (lineAt mode body))))
 
 -- the answer that goes with what a record comes to

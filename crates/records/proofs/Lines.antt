@@ -11,7 +11,7 @@ use Rattle.text.specs.Words.{bytes}
 use Rattle.bodies.specs.Refusals.{lengthRefused, segmentKept, firstKept, secondKept, scaleKept, operandRefused, fieldRefused}
 use Rattle.bodies.specs.Decoding.{immediate, displacement as dispAt, addressOf, operandOf, operandAt, instructionOf}
 use Rattle.branches.specs.Sums.{signed, branchSum, branchShown}
-use Rattle.arms.specs.Arms.{arms, armOf}
+use Rattle.names.specs.Opcodes.{arms, armOf, opcodes}
 use Rattle.arms.specs.Parts.{sizeLabel}
 use Rattle.arms.specs.General.{generalLabel, general}
 use Rattle.arms.specs.Shows.{itemsOf}
@@ -20,7 +20,7 @@ use Rattle.arrange.specs.Shape.{shapeRefused}
 use Rattle.arrange.specs.Size.{sizeRefused}
 use Rattle.numerals.specs.Digits.{digit, digits, placesFrom, places}
 use Rattle.numerals.specs.Numerals.{figure, numeral, displacement}
-use Rattle.names.specs.Mnemonics.{mnemonics, mnemonic}
+use Rattle.names.specs.Opcodes.{mnemonics, mnemonic}
 use Rattle.names.specs.Registers.{registers, registerName, segments, segmentName}
 use Rattle.items.specs.Labels.{labelText, segmentText}
 use Rattle.items.specs.Brackets.{baseText, indexText, tailText, bracketText}
@@ -45,7 +45,7 @@ abbrev printed : List ℕ → ℕ → Comes
 printed text mode = record { answer = 0; text = text }
 
 computed : map (λ (c : Compared). map (comes (c .body)) (c .modes)) lines ≡ map (λ (c : Compared). map (printed (bytes (c .line))) (c .modes)) lines
-unfolding lines refusals recordText lineAt lengthRefused fieldRefused operandRefused segmentKept firstKept secondKept scaleKept shapeRefused sizeRefused armOf arms instructionOf operandAt operandOf immediate dispAt addressOf itemsOf general generalLabel sizeLabel signed branchSum branchShown headOf digit digits placesFrom places figure numeral displacement mnemonics mnemonic registers registerName segments segmentName labelText segmentText baseText indexText tailText bracketText branchText shownText itemText prefixesText nameText headText partedText itemsText lineText
+unfolding lines refusals recordText lineAt lengthRefused fieldRefused operandRefused segmentKept firstKept secondKept scaleKept shapeRefused sizeRefused armOf arms instructionOf operandAt operandOf immediate dispAt addressOf itemsOf general generalLabel sizeLabel signed branchSum branchShown headOf digit digits placesFrom places figure numeral displacement mnemonics mnemonic registers registerName segments segmentName labelText segmentText baseText indexText tailText bracketText branchText shownText itemText prefixesText nameText headText partedText itemsText lineText opcodes
 computed = refl
 
 -- a record that none of 1 to 5 refuses has the room test's answer

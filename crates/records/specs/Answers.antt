@@ -1,12 +1,11 @@
 -- "What an entry point returns": an answer, a length, and what it leaves in the lent buffer, of records and listings alike.
 -- Assumes nothing.
 use mathlib.Core.Path.{_≡_}
-use mathlib.Core.Bool.{Bool, true, false, _||_}
+use mathlib.Core.Bool.{Bool, true, false, _||_, cond}
 use mathlib.Core.List.{List, [], _∷_}
 use Prim.Native.Nat.{ℕ, suc}
 use lib.Dec.{ltb, eqb}
 use lib.ListN.{length}
-use Rattle.text.specs.Choice.{pick}
 use Rattle.text.specs.Write.{write}
 use Rattle.records.specs.declared.Answer.{Answer}
 use Rattle.records.specs.declared.Answer.the-variants.{Printed, Mode, Length, Field, Shape, Size, Room}
@@ -23,11 +22,11 @@ roomRefused text buf = ltb (length buf) (length text)
 
 -- "0 printed: bytes written", "6 room: bytes needed", and 0 with every other answer
 abbrev pub lengthWith : ℕ → List ℕ → ℕ
-lengthWith answer text = pick (eqb answer 0 || eqb answer 6) (length text) 0
+lengthWith answer text = cond (eqb answer 0 || eqb answer 6) (length text) 0
 
 -- "After 1 to 6 the buffer is as before; after 0 only the first bytes, up to the length, differ": they are the text
 abbrev pub bufferAfter : ℕ → List ℕ → List ℕ → List ℕ
-bufferAfter answer text buf = pick (eqb answer 0) (write buf 0 text) buf
+bufferAfter answer text buf = cond (eqb answer 0) (write buf 0 text) buf
 
 -- what an entry point comes to: the answer, and what goes with it
 pub record Outcome : Type 0 where

@@ -5,7 +5,6 @@ use mathlib.Core.Bool.{Bool, true, false, cond, _||_}
 use mathlib.Core.List.{List, [], _++_}
 use Prim.Native.Nat.{ℕ, zero, suc, _+_}
 use lib.Dec.{eqb}
-use Rattle.text.specs.Choice.{pick}
 use Rattle.text.specs.Words.{bytes}
 use Rattle.items.specs.Items.{itemText}
 use Rattle.operands.specs.declared.Instruction.{Instruction}
@@ -15,8 +14,8 @@ use Rattle.bodies.specs.Decoding.{operandAt, instructionOf}
 use Rattle.arms.specs.General.{general}
 use Rattle.arms.specs.Parts.{labelledMemory}
 use Rattle.arms.specs.Rewritten.{isBranch, branch}
-use Rattle.arms.specs.declared.Arm.{Arm}
-use Rattle.arms.specs.declared.Arm.the-variants as arm
+use Rattle.names.specs.declared.Arm.{Arm}
+use Rattle.names.specs.declared.Arm.the-variants as arm
 use Rattle.arrange.specs.Among.{same}
 use Rattle.arrange.specs.Head.{headOf}
 use Rattle.arrange.specs.Size.{generalRefused}
@@ -48,7 +47,7 @@ isByLine Branch = false
 
 -- what parts operand k from the text before it
 abbrev pub separator : ℕ → List ℕ
-separator k = pick (eqb k 0) (bytes " ") (bytes ", ")
+separator k = cond (eqb k 0) (bytes " ") (bytes ", ")
 
 -- n operands from number k on, with one label for those that are memory
 abbrev pub operandsFrom : ℕ → ℕ → Label → List ℕ → List ℕ

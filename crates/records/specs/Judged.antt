@@ -1,8 +1,8 @@
 -- What a record comes to before there is a buffer, as a case for each refusal and the line else.
 -- Assumes nothing.
+use mathlib.Core.Bool.{cond}
 use mathlib.Core.List.{List}
 use Prim.Native.Nat.{ℕ}
-use Rattle.text.specs.Choice.{pick}
 use Rattle.bodies.specs.Refusals.{lengthRefused, fieldRefused}
 use Rattle.bodies.specs.Decoding.{instructionOf}
 use Rattle.arrange.specs.Shape.{shapeRefused}
@@ -21,9 +21,9 @@ judgedAs (LineShown line) = Shown line
 
 unfoldable pub judged : ℕ → List ℕ → Judged
 judged mode body =
-    pick (modeRefused mode) Mode
-    (pick (lengthRefused body) Length
-    (pick (fieldRefused body) Field
-    (pick (shapeRefused (armAt body) (instructionOf body)) Shape
-    (pick (sizeRefused (armAt body) (instructionOf body)) Size
+    cond (modeRefused mode) Mode
+    (cond (lengthRefused body) Length
+    (cond (fieldRefused body) Field
+    (cond (shapeRefused (armAt body) (instructionOf body)) Shape
+    (cond (sizeRefused (armAt body) (instructionOf body)) Size
     (Shown (lineAt mode body))))))

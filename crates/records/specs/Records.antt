@@ -7,8 +7,8 @@ use lib.Dec.{ltb, eqb}
 use Rattle.operands.specs.declared.Instruction.{Instruction}
 use Rattle.bodies.specs.Refusals.{lengthRefused, fieldRefused}
 use Rattle.bodies.specs.Decoding.{instructionOf}
-use Rattle.arms.specs.Arms.{armOf}
-use Rattle.arms.specs.declared.Arm.{Arm}
+use Rattle.names.specs.Opcodes.{armOf}
+use Rattle.names.specs.declared.Arm.{Arm}
 use Rattle.arrange.specs.Shape.{shapeRefused}
 use Rattle.arrange.specs.Size.{sizeRefused}
 use Rattle.arrange.specs.Line.{lineOf}

@@ -4,10 +4,9 @@ ghost use mathlib.Core.List.{_++_};
 ghost use mathlib.Core.Path.{_≡_};
 ghost use mathlib.Core.Bool.{true, false};
 ghost use Prim.Native.Nat.{_≤_};
-ghost use Rattle.text.specs.Words.{Table};
+ghost use Rattle.names.specs.Opcodes.{MnemonicTable};
+ghost use Rattle.names.specs.Registers.{RegisterTable};
 ghost use Rattle.text.specs.Write.{Room, Put};
-ghost use Rattle.names.specs.Mnemonics.{mnemonics as names};
-ghost use Rattle.names.specs.Registers.{registers as regs};
 ghost use Rattle.items.specs.Labels.{labelText, segmentText};
 ghost use Rattle.items.specs.Items.{itemText};
 ghost use Rattle.bodies.specs.Body.{countOf};
@@ -19,7 +18,6 @@ ghost use Rattle.lines.specs.Text.{lineText};
 ghost use Rattle.records.specs.Records.{recordText};
 ghost use Rattle.records.specs.Direct.{wayOf, isByLine, separator, operandsFrom, generalLine, branchLine};
 use crate::Way;
-use arms::Arm;
 use arms::general::general_label;
 use arms::parts::bare_item;
 use arrange::heads::head_of;
@@ -27,7 +25,8 @@ use bodies::numbers;
 use bodies::parts::operand_at;
 use lines::head::put_head;
 use lines::shown::put_parted;
-use names::mnemonics;
+use names::Arm;
+use names::opcodes;
 use names::registers;
 use operands::Label;
 use operands::Operand;
@@ -49,7 +48,7 @@ fn put_operand(
     label: Label,
     o: Operand,
 ) -> usize
-    requires { ⌜ Table regs (now letters) (now starts) ⌝ }
+    requires { ⌜ RegisterTable (now letters) (now starts) ⌝ }
     requires { ⌜ Room (now text) at (itemText (labelledMemory label o)) ⌝ }
     ensures { λ r. ⌜ Put (now (text .entry)) at (itemText (labelledMemory label o)) r (now (text .exit)) ⌝ }
 {
@@ -98,7 +97,7 @@ fn put_operands(
     label: Label,
     body: &[u8],
 ) -> usize
-    requires { ⌜ Table regs (now letters) (now starts) ⌝ }
+    requires { ⌜ RegisterTable (now letters) (now starts) ⌝ }
     requires { ⌜ Whole (now body) ⌝ }
     requires { ⌜ Room (now text) at (operandsFrom (countOf (now body)) 0 label (now body)) ⌝ }
     ensures { λ r. ⌜ Put (now (text .entry)) at (operandsFrom (countOf (now (body .entry))) 0 label (now (body .entry))) r (now (text .exit)) ⌝ }
@@ -124,16 +123,16 @@ fn put_operands(
 }
 
 fn put_general(
-    name_letters: &mnemonics::Letters,
-    name_starts: &mnemonics::Starts,
+    name_letters: &opcodes::Letters,
+    name_starts: &opcodes::Starts,
     register_letters: &registers::Letters,
     register_starts: &registers::Starts,
     body: &[u8],
     text: &mut [u8],
     at: usize,
 ) -> usize
-    requires { ⌜ Table names (now «name_letters») (now «name_starts») ⌝ }
-    requires { ⌜ Table regs (now «register_letters») (now «register_starts») ⌝ }
+    requires { ⌜ MnemonicTable (now «name_letters») (now «name_starts») ⌝ }
+    requires { ⌜ RegisterTable (now «register_letters») (now «register_starts») ⌝ }
     requires { ⌜ Whole (now body) ⌝ }
     requires { ⌜ countOf (now body) ≤ 4 ⌝ }
     requires { ⌜ Room (now text) at (lineText (generalLine (instructionOf (now body)))) ⌝ }
@@ -146,8 +145,8 @@ fn put_general(
 }
 
 fn put_branch(
-    name_letters: &mnemonics::Letters,
-    name_starts: &mnemonics::Starts,
+    name_letters: &opcodes::Letters,
+    name_starts: &opcodes::Starts,
     register_letters: &registers::Letters,
     register_starts: &registers::Starts,
     body: &[u8],
@@ -155,8 +154,8 @@ fn put_branch(
     text: &mut [u8],
     at: usize,
 ) -> usize
-    requires { ⌜ Table names (now «name_letters») (now «name_starts») ⌝ }
-    requires { ⌜ Table regs (now «register_letters») (now «register_starts») ⌝ }
+    requires { ⌜ MnemonicTable (now «name_letters») (now «name_starts») ⌝ }
+    requires { ⌜ RegisterTable (now «register_letters») (now «register_starts») ⌝ }
     requires { ⌜ Whole (now body) ⌝ }
     requires { ⌜ isBranch (operandAt (now body) 0) ≡ true ⌝ }
     requires { ⌜ Room (now text) at (lineText (branchLine straight (instructionOf (now body)))) ⌝ }
@@ -172,8 +171,8 @@ fn put_branch(
 
 // The text of a record that goes a way of its own.
 pub fn put_direct(
-    name_letters: &mnemonics::Letters,
-    name_starts: &mnemonics::Starts,
+    name_letters: &opcodes::Letters,
+    name_starts: &opcodes::Starts,
     register_letters: &registers::Letters,
     register_starts: &registers::Starts,
     way: Way,
@@ -182,8 +181,8 @@ pub fn put_direct(
     text: &mut [u8],
     at: usize,
 ) -> usize
-    requires { ⌜ Table names (now «name_letters») (now «name_starts») ⌝ }
-    requires { ⌜ Table regs (now «register_letters») (now «register_starts») ⌝ }
+    requires { ⌜ MnemonicTable (now «name_letters») (now «name_starts») ⌝ }
+    requires { ⌜ RegisterTable (now «register_letters») (now «register_starts») ⌝ }
     requires { ⌜ way ≡ wayOf mode (now body) ⌝ }
     requires { ⌜ isByLine way ≡ false ⌝ }
     requires { ⌜ Room (now text) at (recordText mode (now body)) ⌝ }

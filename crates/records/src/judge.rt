@@ -1,17 +1,17 @@
 // What a record comes to before there is a buffer: the first refusal of 1 to 5, or the line that it shows.
-ghost use mathlib.Core.List.{map};
 ghost use mathlib.Core.Path.{_≡_};
-ghost use Rattle.arms.specs.Arms.{number, arms as armTable};
+ghost use Rattle.names.specs.Opcodes.{ArmTable};
 ghost use Rattle.arrange.specs.Line.{arranged};
 ghost use Rattle.records.specs.Judged.{judgedAs, judged};
 use crate::Judged;
 use arrange::Arranged;
 use bodies::Decoded;
+use names::opcodes;
 use operands::Instruction;
 
 // A record that keeps the record rules, by its arm.
-fn judge_record(arms: &[u8; 154], straight: bool, i: Instruction) -> Judged
-    requires { ⌜ now arms ≡ map number armTable ⌝ }
+fn judge_record(arms: &opcodes::Arms, straight: bool, i: Instruction) -> Judged
+    requires { ⌜ ArmTable (now arms) ⌝ }
     ensures { λ r. ⌜ r ≡ judgedAs (arranged straight i) ⌝ }
 {
     match arrange::arrange(arms, straight, i) {
@@ -21,8 +21,8 @@ fn judge_record(arms: &[u8; 154], straight: bool, i: Instruction) -> Judged
     }
 }
 
-pub fn judge(arms: &[u8; 154], body: &[u8], mode: u32) -> Judged
-    requires { ⌜ now arms ≡ map number armTable ⌝ }
+pub fn judge(arms: &opcodes::Arms, body: &[u8], mode: u32) -> Judged
+    requires { ⌜ ArmTable (now arms) ⌝ }
     ensures { λ r. ⌜ r ≡ judged mode (now (body .entry)) ⌝ }
 {
     if 1 < mode {

@@ -1,12 +1,9 @@
 // The line of one record in a lent buffer.
-ghost use mathlib.Core.List.{map};
 ghost use mathlib.Core.Path.{_≡_};
 ghost use Prim.Native.Nat.{_≤_};
 ghost use lib.ListN.{length};
-ghost use Rattle.text.specs.Words.{Table};
-ghost use Rattle.names.specs.Mnemonics.{mnemonics as names};
-ghost use Rattle.names.specs.Registers.{registers as regs};
-ghost use Rattle.arms.specs.Arms.{number, arms as armTable};
+ghost use Rattle.names.specs.Opcodes.{MnemonicTable, ArmTable};
+ghost use Rattle.names.specs.Registers.{RegisterTable};
 ghost use Rattle.lines.specs.Text.{lineText};
 ghost use Rattle.records.specs.Answers.{textOutcome, Gives};
 ghost use Rattle.records.specs.Records.{recordOutcome};
@@ -14,20 +11,20 @@ use crate::Answer;
 use crate::Judged;
 use crate::judge;
 use arrange::Line;
-use names::mnemonics;
+use names::opcodes;
 use names::registers;
 
 // A line that fits.
 fn print_fitting(
-    name_letters: &mnemonics::Letters,
-    name_starts: &mnemonics::Starts,
+    name_letters: &opcodes::Letters,
+    name_starts: &opcodes::Starts,
     register_letters: &registers::Letters,
     register_starts: &registers::Starts,
     line: Line,
     text: &mut [u8],
 ) -> Answer
-    requires { ⌜ Table names (now «name_letters») (now «name_starts») ⌝ }
-    requires { ⌜ Table regs (now «register_letters») (now «register_starts») ⌝ }
+    requires { ⌜ MnemonicTable (now «name_letters») (now «name_starts») ⌝ }
+    requires { ⌜ RegisterTable (now «register_letters») (now «register_starts») ⌝ }
     requires { ⌜ length (lineText line) ≤ length (now text) ⌝ }
     ensures { λ r. ⌜ Gives (textOutcome (lineText line) (now (text .entry))) r (now (text .exit)) ⌝ }
 {
@@ -45,15 +42,15 @@ fn print_fitting(
 
 // A line, where it fits. No line exceeds 256 bytes, so in a larger buffer it need not be measured first.
 pub fn print_line(
-    name_letters: &mnemonics::Letters,
-    name_starts: &mnemonics::Starts,
+    name_letters: &opcodes::Letters,
+    name_starts: &opcodes::Starts,
     register_letters: &registers::Letters,
     register_starts: &registers::Starts,
     line: Line,
     text: &mut [u8],
 ) -> Answer
-    requires { ⌜ Table names (now «name_letters») (now «name_starts») ⌝ }
-    requires { ⌜ Table regs (now «register_letters») (now «register_starts») ⌝ }
+    requires { ⌜ MnemonicTable (now «name_letters») (now «name_starts») ⌝ }
+    requires { ⌜ RegisterTable (now «register_letters») (now «register_starts») ⌝ }
     ensures { λ r. ⌜ Gives (textOutcome (lineText line) (now (text .entry))) r (now (text .exit)) ⌝ }
 {
     if 256 <= text.len() {
@@ -87,18 +84,18 @@ pub fn print_line(
 }
 
 pub fn print_record(
-    name_letters: &mnemonics::Letters,
-    name_starts: &mnemonics::Starts,
+    name_letters: &opcodes::Letters,
+    name_starts: &opcodes::Starts,
     register_letters: &registers::Letters,
     register_starts: &registers::Starts,
-    arms: &[u8; 154],
+    arms: &opcodes::Arms,
     body: &[u8],
     mode: u32,
     text: &mut [u8],
 ) -> Answer
-    requires { ⌜ Table names (now «name_letters») (now «name_starts») ⌝ }
-    requires { ⌜ Table regs (now «register_letters») (now «register_starts») ⌝ }
-    requires { ⌜ now arms ≡ map number armTable ⌝ }
+    requires { ⌜ MnemonicTable (now «name_letters») (now «name_starts») ⌝ }
+    requires { ⌜ RegisterTable (now «register_letters») (now «register_starts») ⌝ }
+    requires { ⌜ ArmTable (now arms) ⌝ }
     ensures { λ r. ⌜ Gives (recordOutcome mode (now (body .entry)) (now (text .entry))) r (now (text .exit)) ⌝ }
 {
     match judge::judge(arms, body, mode) {

@@ -1,20 +1,20 @@
 // Which records are printed straight from their bytes: those of the general path whose label goes by the size, and relative
 // branches. Refusals are left to `judge`.
-ghost use mathlib.Core.List.{map};
 ghost use mathlib.Core.Path.{_≡_};
 ghost use mathlib.Core.Bool.{true, false, _||_};
 ghost use lib.Dec.{eqb};
+ghost use Rattle.names.specs.Opcodes.{ArmTable};
 ghost use Rattle.operands.specs.Kinds.{isMemory};
 ghost use Rattle.bodies.specs.Refusals.{Whole};
 ghost use Rattle.bodies.specs.Decoding.{operandAt, instructionOf};
-ghost use Rattle.arms.specs.Arms.{number, arms as armTable};
 ghost use Rattle.arrange.specs.Size.{hasLabel};
 ghost use Rattle.records.specs.Direct.{generalWay, branchWay, armWay, wayOf, isByLine};
 use crate::Way;
-use arms::Arm;
-use arms::table::arm_of;
 use bodies::numbers;
 use bodies::rules;
+use names::Arm;
+use names::opcodes;
+use names::opcodes::arm_of;
 
 fn is_memory_at(body: &[u8], k: usize) -> bool
     requires { ⌜ Whole (now body) ⌝ }
@@ -108,8 +108,8 @@ pub fn is_by_line(way: Way) -> bool
     }
 }
 
-pub fn way_of(arms: &[u8; 154], body: &[u8], mode: u32) -> Way
-    requires { ⌜ now arms ≡ map number armTable ⌝ }
+pub fn way_of(arms: &opcodes::Arms, body: &[u8], mode: u32) -> Way
+    requires { ⌜ ArmTable (now arms) ⌝ }
     ensures { λ r. ⌜ r ≡ wayOf mode (now (body .entry)) ⌝ }
 {
     if 1 < mode {

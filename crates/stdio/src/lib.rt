@@ -1,18 +1,15 @@
 // From standard input to standard output, through one buffer of 64 KiB for what is read and one for what is written. All that
 // matters is `listings::stream::step`; here are the calls of the system, of which no contract can speak.
-ghost use mathlib.Core.List.{map};
 ghost use mathlib.Core.Path.{_≡_};
 ghost use Prim.Native.Nat.{_+_, _≤_};
 ghost use lib.ListN.{length};
-ghost use Rattle.text.specs.Words.{Table};
-ghost use Rattle.names.specs.Mnemonics.{mnemonics as names};
-ghost use Rattle.names.specs.Registers.{registers as regs};
-ghost use Rattle.arms.specs.Arms.{number, arms as armTable};
+ghost use Rattle.names.specs.Opcodes.{MnemonicTable, ArmTable};
+ghost use Rattle.names.specs.Registers.{RegisterTable};
 use libc::STDERR_FILENO;
 use libc::STDIN_FILENO;
 use libc::STDOUT_FILENO;
 use listings::Stage;
-use names::mnemonics;
+use names::opcodes;
 use names::registers;
 
 // What came of the bytes that were there: the stage then, how many were used, and whether all lines could be written.
@@ -55,19 +52,19 @@ fn written_out(stage: Stage, used: usize, text: &[u8], out: usize) -> Passed
 
 // Takes steps until one uses nothing.
 fn pass(
-    name_letters: &mnemonics::Letters,
-    name_starts: &mnemonics::Starts,
+    name_letters: &opcodes::Letters,
+    name_starts: &opcodes::Starts,
     register_letters: &registers::Letters,
     register_starts: &registers::Starts,
-    arms: &[u8; 154],
+    arms: &opcodes::Arms,
     stage: Stage,
     input: &[u8],
     mode: u32,
     text: &mut [u8],
 ) -> Passed
-    requires { ⌜ Table names (now «name_letters») (now «name_starts») ⌝ }
-    requires { ⌜ Table regs (now «register_letters») (now «register_starts») ⌝ }
-    requires { ⌜ now arms ≡ map number armTable ⌝ }
+    requires { ⌜ MnemonicTable (now «name_letters») (now «name_starts») ⌝ }
+    requires { ⌜ RegisterTable (now «register_letters») (now «register_starts») ⌝ }
+    requires { ⌜ ArmTable (now arms) ⌝ }
     requires { ⌜ 257 ≤ length (now text) ⌝ }
     ensures { λ r. ⌜ r .used ≤ length (now (input .entry)) ⌝ }
 {
@@ -158,20 +155,20 @@ pub struct Round {
 
 // Reads once, and writes the lines of all frames that are whole then.
 fn round_of(
-    name_letters: &mnemonics::Letters,
-    name_starts: &mnemonics::Starts,
+    name_letters: &opcodes::Letters,
+    name_starts: &opcodes::Starts,
     register_letters: &registers::Letters,
     register_starts: &registers::Starts,
-    arms: &[u8; 154],
+    arms: &opcodes::Arms,
     stage: Stage,
     held: usize,
     input: &mut [u8],
     mode: u32,
     text: &mut [u8],
 ) -> Round
-    requires { ⌜ Table names (now «name_letters») (now «name_starts») ⌝ }
-    requires { ⌜ Table regs (now «register_letters») (now «register_starts») ⌝ }
-    requires { ⌜ now arms ≡ map number armTable ⌝ }
+    requires { ⌜ MnemonicTable (now «name_letters») (now «name_starts») ⌝ }
+    requires { ⌜ RegisterTable (now «register_letters») (now «register_starts») ⌝ }
+    requires { ⌜ ArmTable (now arms) ⌝ }
     requires { ⌜ held ≤ length (now input) ⌝ }
     requires { ⌜ 257 ≤ length (now text) ⌝ }
     ensures { λ r. ⌜ r .held ≤ length (now (input .entry)) ⌝ }
@@ -245,11 +242,11 @@ fn finish(last: Round) {
 // The lines of the listing on standard input. A proved loop has to end, and nothing says that the input does: so the loop counts
 // its turns down, from a number that no run uses up.
 pub fn run(mode: u32) {
-    let name_letters = names::mnemonics::letters();
-    let name_starts = names::mnemonics::starts();
+    let name_letters = names::opcodes::letters();
+    let name_starts = names::opcodes::starts();
     let register_letters = names::registers::letters();
     let register_starts = names::registers::starts();
-    let arms = arms::table::ARMS;
+    let arms = names::opcodes::ARMS;
     let mut input = io::large_buffer();
     let mut text = io::large_buffer();
     let mut stage = Stage::Version;

@@ -6,7 +6,7 @@ use borrow.Author.Needs.{needs}
 use denote.Ref.{now}
 use Rattle.host.proofs.masm_print_listing.Statement.{statement}
 use Rattle.host.proofs.masm_print_listing.Tie as tie
-use Rattle.arms.specs.Arms.{arms}
+use Rattle.names.specs.Opcodes.{arms, opcodes}
 use Rattle.host.proofs.Fitting.{listing-fits}
 
 letters-requires : tie.Need-letters-requires
@@ -22,7 +22,7 @@ starts-requires-2 : tie.Need-starts-requires-2
 starts-requires-2 c κs = search needs
 
 print-listing-requires : tie.Need-print-listing-requires
-unfolding arms
+unfolding arms opcodes
 print-listing-requires c κs = (
   record { text = (c .before .before .before .before .before .before .before .before .before .letters .ensures); places = (c .before .before .before .before .before .before .before .before .starts .ensures) },
   (record { text = (c .before .before .before .before .before .before .before .letters2 .ensures); places = (c .before .before .before .before .before .before .starts2 .ensures) }, refl),

@@ -7,7 +7,7 @@ use borrow.Author.Needs.{needs}
 use lib.ListN.{length}
 use Rattle.stdio.proofs.run.Statement.{statement}
 use Rattle.stdio.proofs.run.Tie as tie
-use Rattle.arms.specs.Arms.{arms as armTable}
+use Rattle.names.specs.Opcodes.{arms as armTable, opcodes}
 
 abbrev Inv-loop : tie.InvT-loop
 Inv-loop mode name-letters name-starts register-letters register-starts arms input₀ text₀ stage₀ held₀ turns₀ input text stage held turns = (held ≤ 65536) × (length input ≡ 65536) × (length text ≡ 65536)
@@ -46,7 +46,7 @@ slice-aggregate-round-of-2 : tie.Need-slice-aggregate-round-of-2 Inv-loop μ-loo
 slice-aggregate-round-of-2 c = sym (c .before .before .before .before .before .before .before .before .loop .inv .2)
 
 round-of-requires : tie.Need-round-of-requires Inv-loop μ-loop
-unfolding armTable
+unfolding armTable opcodes
 round-of-requires c κs = (
   record { text = (c .before .before .before .before .before .before .before .before .before .before .before .before .before .before .letters .ensures); places = (c .before .before .before .before .before .before .before .before .before .before .before .before .before .starts .ensures) },
   (

@@ -3,7 +3,7 @@
 use mathlib.Core.Bool.{true, false}
 use mathlib.Core.List.{[], _∷_}
 use mathlib.Core.Path.{sym}
-use Rattle.arms.specs.declared.Arm.the-variants.{Movs, Cmps, Scas, Lods}
+use Rattle.names.specs.declared.Arm.the-variants.{Movs, Cmps, Scas, Lods}
 use Rattle.arrange.specs.Head.{canRep}
 use Rattle.arrange.proofs.Groups.{of-group, others}
 use Rattle.arrange.proofs.heads.can_rep.Statement.{statement}

@@ -4,8 +4,8 @@ use borrow.Author.Needs.{needs}
 use mathlib.Core.Bool.{Bool, true, false, cond, _||_, true≢false}
 use mathlib.Core.List.{List, [], _∷_}
 use mathlib.Core.Path.{_≡_, refl, sym}
-use Rattle.arms.specs.declared.Arm.{Arm}
-use Rattle.arms.specs.declared.Arm.the-variants.{Jmpf, Callf, Feni, Fdisi, Fsetpm}
+use Rattle.names.specs.declared.Arm.{Arm}
+use Rattle.names.specs.declared.Arm.the-variants.{Jmpf, Callf, Feni, Fdisi, Fsetpm}
 use Prim.Native.Nat.{ℕ}
 use Rattle.arrange.specs.Head.{nameOf}
 use Rattle.arrange.specs.declared.Name.the-variants as name

@@ -4,8 +4,8 @@ use borrow.Author.Needs.{needs}
 use mathlib.Core.Bool.{true, false}
 use mathlib.Core.List.{[], _∷_}
 use mathlib.Core.Path.{sym}
-use Rattle.arms.specs.declared.Arm.{Arm}
-use Rattle.arms.specs.declared.Arm.the-variants.{Incssp, Wrss, Pushf}
+use Rattle.names.specs.declared.Arm.{Arm}
+use Rattle.names.specs.declared.Arm.the-variants.{Incssp, Wrss, Pushf}
 use Rattle.arrange.specs.Head.{suffixed}
 use Rattle.arrange.proofs.Groups.{of-group, others}
 use Rattle.arrange.proofs.heads.suffixed.Statement.{statement}

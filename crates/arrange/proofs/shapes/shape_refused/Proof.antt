@@ -6,8 +6,8 @@ use mathlib.Core.Bool.{false, not, _||_}
 use mathlib.Core.List.{List, [], _∷_}
 use mathlib.Core.Path.{sym}
 use Rattle.operands.specs.Kinds.{isAbsent, isMemory}
-use Rattle.arms.specs.declared.Arm.{Arm}
-use Rattle.arms.specs.declared.Arm.the-variants.{
+use Rattle.names.specs.declared.Arm.{Arm}
+use Rattle.names.specs.declared.Arm.the-variants.{
   Hreset,
   Lsl,
   Prefetch,

@@ -1,4 +1,4 @@
--- `bodies::numbers::immediate_of` meets its contract: each `return` is the case that its tests pick.
+-- `bodies::numbers::immediate_of` meets its contract: each `return` is the case that its tests cond.
 -- Assumes nothing.
 use borrow.Author.Needs.{needs}
 use Rattle.bodies.specs.Decoding.{immediate}

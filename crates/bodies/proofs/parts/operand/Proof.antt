@@ -1,4 +1,4 @@
--- `bodies::parts::operand` meets its contract: each `return` is the operand that its tests pick.
+-- `bodies::parts::operand` meets its contract: each `return` is the operand that its tests cond.
 -- Assumes nothing.
 use borrow.Author.Needs.{needs}
 use Rattle.bodies.specs.Decoding.{operandOf}

@@ -15,7 +15,7 @@ use Rattle.bodies.specs.Body.{byte}
 use Rattle.bodies.specs.Decoding.{immediate}
 use Rattle.branches.specs.Sums.{branchShown}
 use Rattle.arms.specs.Parts.{bare}
-use Rattle.arms.specs.declared.Arm.the-variants.{Branch}
+use Rattle.names.specs.declared.Arm.the-variants.{Branch}
 use Rattle.arrange.specs.Head.{headOf}
 use Rattle.arrange.specs.declared.Head.{Head}
 use Rattle.lines.specs.Text.{partedText, headText}

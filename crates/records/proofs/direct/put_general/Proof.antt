@@ -10,7 +10,7 @@ use Prim.Native.Nat.{ℕ}
 use Rattle.text.proofs.Putting.{first, rest, and-then, room-as, put-as}
 use Rattle.operands.specs.declared.Label.{Label}
 use Rattle.bodies.specs.Body.{byte, countOf}
-use Rattle.arms.specs.declared.Arm.the-variants.{General}
+use Rattle.names.specs.declared.Arm.the-variants.{General}
 use Rattle.arrange.specs.Head.{headOf}
 use Rattle.arrange.specs.declared.Head.{Head}
 use Rattle.lines.specs.Text.{headText}

@@ -8,8 +8,8 @@ use mathlib.Core.Path.{sym, ap, _∙_}
 use mathlib.Core.Bool.{false, _||_}
 use mathlib.Core.List.{[], _∷_}
 use Rattle.bodies.specs.Decoding.{instructionOf}
-use Rattle.arms.specs.declared.Arm.{Arm}
-use Rattle.arms.specs.declared.Arm.the-variants.{General, Branch}
+use Rattle.names.specs.declared.Arm.{Arm}
+use Rattle.names.specs.declared.Arm.the-variants.{General, Branch}
 use Rattle.arrange.specs.Among.{same}
 use Rattle.arrange.proofs.Groups.{of-group, others}
 use Rattle.records.specs.Direct.{armWay}

@@ -8,7 +8,7 @@ use mathlib.Core.Path.{sym, ap, _∙_}
 use native.Mathlib.Omega.{arith}
 use borrow.Author.Tests.{lt-ltb, le-ltb}
 use Rattle.bodies.specs.Decoding.{instructionOf}
-use Rattle.arms.specs.Arms.{armOf}
+use Rattle.names.specs.Opcodes.{armOf}
 use Rattle.bodies.proofs.Lengths.{whole}
 use Rattle.records.proofs.Chosen.{way-mode, way-length, way-field, way-by-arm}
 

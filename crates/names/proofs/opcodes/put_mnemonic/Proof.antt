@@ -1,18 +1,18 @@
--- `names::mnemonics::put_mnemonic` meets its contract: the word that stands at its place, or none past the end.
+-- `names::opcodes::put_mnemonic` meets its contract: the word that stands at its place, or none past the end.
 -- Assumes nothing.
 use native.Mathlib.Omega.{arith}
 use borrow.Author.Needs.{needs}
-use Rattle.names.proofs.mnemonics.put_mnemonic.Statement.{statement}
-use Rattle.names.proofs.mnemonics.put_mnemonic.Tie as tie
+use Rattle.names.proofs.opcodes.put_mnemonic.Statement.{statement}
+use Rattle.names.proofs.opcodes.put_mnemonic.Tie as tie
 use Rattle.text.proofs.Tables.{word-asked, word-put, no-word-put}
-use Rattle.names.specs.Mnemonics.{mnemonics, mnemonic}
+use Rattle.names.specs.Opcodes.{mnemonics, mnemonic, opcodes}
 
 returns : tie.Need-returns
-unfolding mnemonics mnemonic
+unfolding mnemonics mnemonic opcodes
 returns c = no-word-put mnemonics (c .if1 .taken)
 
 put-word-requires : tie.Need-put-word-requires
-unfolding mnemonics mnemonic
+unfolding mnemonics mnemonic opcodes
 put-word-requires c κs =
     word-asked ((c .before .before .before .before .before .pre .0)) (c .before .before .before .before .before .args .opcode) (c .before .before .before .if1 .left) (c .before .before .before .before .before .pre .1)
 
@@ -20,7 +20,7 @@ same-length : tie.Need-same-length
 same-length c = search needs
 
 returns-2 : tie.Need-returns-2
-unfolding mnemonics mnemonic
+unfolding mnemonics mnemonic opcodes
 returns-2 c = word-put ((c .before .before .before .before .before .before .before .before .pre .0)) (c .before .before .before .before .before .before .before .before .args .opcode) (c .before .before .before .before .before .before .if1 .left) (c .before .before .put-word .ensures)
 
 pub put-mnemonic-spec : {M : Type 1} → statement M

@@ -6,9 +6,9 @@ use Prim.Native.Nat.{ℕ, zero, suc, _≤_, _<_}
 use native.Mathlib.Decide.{decLt}
 use native.Mathlib.Omega.{arith}
 use lib.ListN.{getD, length, List·getD-map, List·getD-eq-default}
-use Rattle.arms.specs.declared.Arm.{Arm}
-use Rattle.arms.specs.declared.Arm.the-variants as arm
-use Rattle.arms.specs.Arms.{arms, armOf, number}
+use Rattle.names.specs.declared.Arm.{Arm}
+use Rattle.names.specs.declared.Arm.the-variants as arm
+use Rattle.names.specs.Opcodes.{arms, armOf, number, opcodes}
 
 -- the arms by their numbers
 abbrev inOrder : List Arm
@@ -92,5 +92,5 @@ module _ (table : List ℕ) (is : table ≡ map number arms) (opcode : ℕ) wher
 
 -- a number that is no opcode has the general path
 pub arm-past : (opcode : ℕ) → 154 ≤ opcode → armOf opcode ≡ arm.General
-unfolding armOf arms
+unfolding armOf arms opcodes
 arm-past opcode past = List·getD-eq-default arms arm.General past

@@ -1,15 +1,22 @@
-// The mnemonics: one text, and an offset for each opcode. The tables are lent.
+// The opcodes: their names, as one text with an offset for each, and the arm of document 000 that prints each. The tables are lent.
 ghost use mathlib.Core.Path.{_≡_};
 ghost use Prim.Native.Nat.{_≤_};
 ghost use lib.ListN.{length};
 ghost use Rattle.text.specs.Write.{Room, Put};
-ghost use Rattle.text.specs.Words.{join, starts as startsOf, Table};
-ghost use Rattle.names.specs.Mnemonics.{mnemonics, mnemonic};
+ghost use Rattle.text.specs.Words.{join, starts as startsOf};
+ghost use Rattle.names.specs.Opcodes.{mnemonics, mnemonic, armOf, MnemonicTable, ArmTable};
+use crate::Arm;
 use text::words;
+
+// How many opcodes there are.
+pub const OPCODES: usize = 154;
 
 pub type Letters = [u8; 788];
 
 pub type Starts = [u16; 155];
+
+// The number of each opcode's arm.
+pub type Arms = [u8; OPCODES];
 
 const LETTERS: Letters =
     *b"jmpcalljecxzlooploopzloopnzjojnojbjnbjzjnzjnajajsjnsjpjnpjljgejlejgxbeginmovaddoradcsbbandsubxorcmptestpushpopincdecnegnotfxsavefxrstormovapsmovqmovlpsmovhpsmovlpdmovhpdmovntsdcvtsi2sscvtsi2sdcvtsd2sicvttsd2sipextrqpinsrqldsleslfslgsjmpfcallfmovscmpsinsoutshresetlslprefetchntaprefetch0prefetch1prefetch2prefetchwinvlpgclflushclflushoptclwbsgdtsidtlgdtlidtlssnopmonitormonitorxmwaitxmwaitinvlpgbrdpruscasstoslodspsmashpvalidatermpadjustrmpupdateincsspwrsswrusspblendvbblendvpsblendvpdsha256rnds2leapushfaamaadfeni8087_nopfdisi8087_nopfsetpm287_nopfcomfcompficomficompfaddfmulfsubfsubrfdivfdivrfaddpfmulpfsubrpfsubpfdivpfdivrpfiaddfimulfisubfisubrfidivfidivrfcmovbfcmovefcmovbefcmovufcmovnbfcmovnefcmovnbefcmovnufucomifcomifucomipfcomipfbldfldfildfxchfucomfucompfbstpfstfstpfistfistpfisttp";
@@ -172,6 +179,9 @@ const STARTS: Starts = [
     788,
 ];
 
+pub const ARMS: Arms =
+    *b"\x08\x08\x08\x08\x08\x08\x08\x08\x08\x08\x08\x08\x08\x08\x08\x08\x08\x08\x08\x08\x08\x08\x09\x00\x00\x00\x00\x00\x00\x00\x00\x00\x00\x00\x00\x00\x00\x00\x00\x00\x00\x00\x01\x01\x01\x01\x01\x01\x01\x01\x02\x02\x01\x01\x05\x05\x05\x05\x03\x04\x06\x07\x07\x07\x0d\x0e\x0f\x0f\x0f\x0f\x0f\x0f\x0f\x0f\x0f\x10\x10\x10\x10\x11\x12\x13\x13\x13\x14\x15\x16\x17\x17\x18\x19\x1a\x1a\x1a\x1b\x1c\x1c\x1d\x1d\x1d\x1d\x1e\x1f\x20\x20\x0a\x0b\x0c\x21\x21\x21\x21\x22\x22\x22\x22\x22\x22\x22\x22\x22\x22\x22\x22\x22\x22\x22\x22\x22\x22\x22\x22\x22\x22\x22\x22\x22\x22\x22\x22\x22\x22\x23\x23\x23\x23\x23\x23\x24\x24\x24\x24\x24\x24";
+
 pub fn letters() -> Letters
     ensures { λ r. ⌜ r ≡ join mnemonics ⌝ }
 {
@@ -192,25 +202,76 @@ pub fn put_mnemonic(
     starts: &Starts,
     opcode: u16,
 ) -> usize
-    requires { ⌜ Table mnemonics (now letters) (now starts) ⌝ }
+    requires { ⌜ MnemonicTable (now letters) (now starts) ⌝ }
     requires { ⌜ Room (now buf) at (mnemonic opcode) ⌝ }
     ensures { λ r. ⌜ Put (now (buf .entry)) at (mnemonic opcode) r (now (buf .exit)) ⌝ }
 {
     let k = opcode as usize;
-    if 154 <= k {
+    if OPCODES <= k {
         return at;
     }
     words::put_word(buf, at, letters, starts, k)
 }
 
 pub fn mnemonic_length(letters: &Letters, starts: &Starts, opcode: u16) -> usize
-    requires { ⌜ Table mnemonics (now letters) (now starts) ⌝ }
+    requires { ⌜ MnemonicTable (now letters) (now starts) ⌝ }
     ensures { λ r. ⌜ r ≡ length (mnemonic opcode) ⌝ }
     ensures { λ r. ⌜ r ≤ 13 ⌝ }
 {
     let k = opcode as usize;
-    if 154 <= k {
+    if OPCODES <= k {
         return 0;
     }
     words::word_length(letters, starts, k)
+}
+
+// The arm of an opcode; of a number that is no opcode, the general path's.
+pub fn arm_of(table: &Arms, opcode: u16) -> Arm
+    requires { ⌜ ArmTable (now table) ⌝ }
+    ensures { λ r. ⌜ r ≡ armOf opcode ⌝ }
+{
+    let at = opcode as usize;
+    if at < OPCODES {
+        match table[at] {
+            1 => Arm::Qword,
+            2 => Arm::Mmword,
+            3 => Arm::Jmpf,
+            4 => Arm::Callf,
+            5 => Arm::Lds,
+            6 => Arm::Movs,
+            7 => Arm::Cmps,
+            8 => Arm::Branch,
+            9 => Arm::Xbegin,
+            10 => Arm::Feni,
+            11 => Arm::Fdisi,
+            12 => Arm::Fsetpm,
+            13 => Arm::Hreset,
+            14 => Arm::Lsl,
+            15 => Arm::Prefetch,
+            16 => Arm::Sgdt,
+            17 => Arm::Lss,
+            18 => Arm::Nop,
+            19 => Arm::Monitor,
+            20 => Arm::Mwait,
+            21 => Arm::Invlpgb,
+            22 => Arm::Rdpru,
+            23 => Arm::Scas,
+            24 => Arm::Lods,
+            25 => Arm::Psmash,
+            26 => Arm::Pvalidate,
+            27 => Arm::Incssp,
+            28 => Arm::Wrss,
+            29 => Arm::Pblendvb,
+            30 => Arm::Lea,
+            31 => Arm::Pushf,
+            32 => Arm::Aam,
+            33 => Arm::Fcom,
+            34 => Arm::Fadd,
+            35 => Arm::Fbld,
+            36 => Arm::Fbstp,
+            _ => Arm::General,
+        }
+    } else {
+        Arm::General
+    }
 }

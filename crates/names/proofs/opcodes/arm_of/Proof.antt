@@ -1,10 +1,10 @@
--- `arms::table::arm_of` meets its contract: at each return, what was called ensures and what was tested give the definition's case.
+-- `names::opcodes::arm_of` meets its contract: at each return, what was called ensures and what was tested give the definition's case.
 -- Assumes nothing.
 use mathlib.Core.Path.{_≡_, sym, _∙_}
 use borrow.Author.Needs.{needs}
-use Rattle.arms.proofs.Numbered.{at-else, arm-here, arm-found, arm-past}
-use Rattle.arms.proofs.table.arm_of.Statement.{statement}
-use Rattle.arms.proofs.table.arm_of.Tie as tie
+use Rattle.names.proofs.ArmNumbers.{at-else, arm-here, arm-found, arm-past}
+use Rattle.names.proofs.opcodes.arm_of.Statement.{statement}
+use Rattle.names.proofs.opcodes.arm_of.Tie as tie
 
 element-copy-out-match : tie.Need-element-copy-out-match
 element-copy-out-match c = search needs
