@@ -1,4 +1,4 @@
--- The Instruction of an accepted body keeps document 01's record rules: what the crates above take from `decoded`.
+-- The Instruction of an accepted body keeps document 01's record rules: what the crates above take from `instructionOf`.
 -- Assumes nothing.
 use mathlib.Core.Bool.{Bool, true, false, not, cond}
 use mathlib.Core.List.{List}
@@ -11,10 +11,10 @@ use Rattle.operands.specs.declared.Instruction.{Instruction}
 use Rattle.operands.specs.declared.Operand.{Operand}
 use Rattle.operands.specs.declared.Operand.the-variants.{Absent}
 use Rattle.operands.specs.Kinds.{isAbsent}
-use Rattle.bodies.specs.declared.Decoded.the-variants.{Length, Field, Record}
+use Rattle.names.specs.Opcodes.{opcodeCount}
 use Rattle.bodies.specs.Body.{byte, dword, opcodeOf, flagsOf, lengthOf, immOf, dispOf, countOf, placeOf}
-use Rattle.bodies.specs.Refusals.{operandRefused, lengthRefused, fieldRefused}
-use Rattle.bodies.specs.Decoding.{operandOf, operandAt, instructionOf, decoded}
+use Rattle.bodies.specs.Refusals.{operandRefused, fieldRefused}
+use Rattle.bodies.specs.Decoding.{operandOf, operandAt, instructionOf}
 use Rattle.bodies.specs.WellFormed.{Bytes, Kept, WellFormed}
 use Rattle.bodies.proofs.Picks.{neither-left, neither-right, then-kept, picked}
 use Rattle.bodies.proofs.Operands.{operand-kept}
@@ -63,7 +63,7 @@ module _ (body : List ℕ) (bytes : Bytes body) where
   unfolding fieldRefused instructionOf
   accepted e =
       record {
-        opcode = leb-false 154 (opcodeOf body) (search (neither-left, neither-right, e) depth 10);
+        opcode = leb-false opcodeCount (opcodeOf body) (search (neither-left, neither-right, e) depth 10);
         flags = leb-false 64 (flagsOf body) (search (neither-left, neither-right, e) depth 10);
         length-least = ltb-false (lengthOf body) 1 (search (neither-left, neither-right, e) depth 10);
         length-most = ltb-false 15 (lengthOf body) (search (neither-left, neither-right, e) depth 10);
@@ -77,15 +77,3 @@ module _ (body : List ℕ) (bytes : Bytes body) where
         no-b = absent-on body 1;
         no-c = absent-on body 2;
       }
-
--- what `decoded` says where it is a record
-recorded-by : (l f : Bool) (x i : Instruction) → cond l Length (cond f Field (Record x)) ≡ Record i → (f ≡ false) × (x ≡ i)
-recorded-by true f x i e = (cc, cc)
-recorded-by false true x i e = (cc, cc)
-recorded-by false false x i e = (refl, cc)
-
-pub record-kept : (body : List ℕ) (i : Instruction) → Bytes body → decoded body ≡ Record i → WellFormed i
-unfolding decoded
-record-kept body i bytes e =
-    let r = recorded-by (lengthRefused body) (fieldRefused body) (instructionOf body) i e in
-    rw (r .1) at (accepted body bytes (r .0))

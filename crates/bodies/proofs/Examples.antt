@@ -1,15 +1,24 @@
 -- Bodies and what they are, by computation: document 01's worked record, and the edges of the two refusals.
 -- Assumes nothing.
 use mathlib.Core.List.{List, [], _∷_, _++_, map}
-use mathlib.Core.Bool.{true}
+use mathlib.Core.Bool.{true, cond}
 use mathlib.Core.Path.{_≡_, refl}
 use Prim.Native.Nat.{ℕ, _-_, _*_, _^_}
 use lib.IntN.{negsuc}
 use lib.ListN.{replicate}
+use Rattle.operands.specs.declared.Instruction.{Instruction}
 use Rattle.operands.specs.declared.Operand.the-variants.{Absent, Register, Imm, Absolute16, Memory}
-use Rattle.bodies.specs.declared.Decoded.the-variants.{Length, Field, Record}
 use Rattle.bodies.specs.Refusals.{lengthRefused, segmentKept, firstKept, secondKept, scaleKept, operandRefused, fieldRefused}
-use Rattle.bodies.specs.Decoding.{immediate, displacement, addressOf, operandOf, operandAt, instructionOf, decoded}
+use Rattle.bodies.specs.Decoding.{immediate, dispIn, addressOf, operandOf, operandAt, instructionOf}
+
+-- what a body is: refused by its length or by a field, or a record
+data Decoded : Type 0 where
+  Length : Decoded
+  Field : Decoded
+  Record : Instruction → Decoded
+
+abbrev decoded : List ℕ → Decoded
+decoded body = cond (lengthRefused body) Length (cond (fieldRefused body) Field (Record (instructionOf body)))
 
 -- opcode, flags and length, then mem_size 0, imm 000000FB, disp 80000000, and the rest from the count on
 abbrev body : List ℕ → List ℕ → List ℕ
@@ -31,7 +40,7 @@ worked : decoded (0 ∷ 0 ∷ 0 ∷ 5 ∷ 0 ∷ 0 ∷ 0 ∷ 0 ∷ 0x7B ∷ 0 ∷
   c = Absent;
   d = Absent;
 }
-unfolding decoded lengthRefused fieldRefused operandRefused segmentKept firstKept secondKept scaleKept instructionOf operandAt operandOf immediate
+unfolding lengthRefused fieldRefused operandRefused segmentKept firstKept secondKept scaleKept instructionOf operandAt operandOf immediate
 worked = refl
 
 -- four operands: a register, a signed byte below 0, an absolute, and a bracket with the least disp
@@ -59,7 +68,7 @@ four : decoded mixed ≡ Record record {
     displaced = true;
   };
 }
-unfolding decoded lengthRefused fieldRefused operandRefused segmentKept firstKept secondKept scaleKept instructionOf operandAt operandOf immediate displacement addressOf
+unfolding lengthRefused fieldRefused operandRefused segmentKept firstKept secondKept scaleKept instructionOf operandAt operandOf immediate dispIn addressOf
 four = refl
 
 -- 13 bytes; an operand too few, or too many; count 5 and one byte too few
@@ -67,7 +76,7 @@ abbrev badLengths : List (List ℕ)
 badLengths = replicate 13 0 ∷ jmp (1 ∷ []) ∷ jmp (0 ∷ 1 ∷ 0 ∷ 0 ∷ 0 ∷ 0 ∷ []) ∷ jmp (5 ∷ replicate 24 0) ∷ []
 
 lengths : map decoded badLengths ≡ replicate 4 Length
-unfolding decoded lengthRefused
+unfolding lengthRefused
 lengths = refl
 
 -- counts 5 and 255 with all their bytes; opcode 154; flag bit 6; lengths 0 and 16; kinds 0 and 17; register byte 30; a bracket's
@@ -89,5 +98,5 @@ badFields =
     jmp (1 ∷ 5 ∷ 0 ∷ 0 ∷ 0 ∷ 1 ∷ []) ∷ []
 
 fields : map decoded badFields ≡ replicate 13 Field
-unfolding decoded lengthRefused fieldRefused operandRefused segmentKept firstKept secondKept scaleKept
+unfolding lengthRefused fieldRefused operandRefused segmentKept firstKept secondKept scaleKept
 fields = refl

@@ -10,8 +10,9 @@ use lib.IntN.{pos}
 use mir.Syntax.{w32}
 use mir.Val.{SFits}
 use borrow.Author.Tests.{ltb-true, ltb-false, leb-true, leb-false, eqb-true, eqb-false, not-true, le-leb, lt-leb}
-use Rattle.bodies.specs.Refusals.{isRegisterByte, isScale, segmentKept, firstKept, secondKept, scaleKept, operandKept}
-use Rattle.bodies.specs.Decoding.{immediate, extended, isDisplaced, displacement, addressOf, operandOf}
+use Rattle.operands.specs.RegisterBytes.{isRegisterByte}
+use Rattle.bodies.specs.Refusals.{isScale, segmentKept, firstKept, secondKept, scaleKept, operandKept}
+use Rattle.bodies.specs.Decoding.{immediate, extended, isDisplaced, dispIn, addressOf, operandOf}
 use Rattle.bodies.specs.WellFormed.{RegisterKept, ImmKept, ScaleKept, AddressKept, Kept}
 use Rattle.bodies.proofs.Picks.{both-left, both-right, either, picked}
 use Rattle.bodies.proofs.Signed.{displacement-fits}
@@ -109,11 +110,11 @@ module _ (kind segment first second scale : ℕ) (kept : operandKept kind segmen
       scale-one scale (rw (le-leb 13 kind h) at s)
 
   module _ (disp : ℕ) (fits : disp < 2 ^ 32) where
-    disp-fits : SFits w32 (displacement kind disp)
+    disp-fits : SFits w32 (dispIn kind disp)
     disp-fits = displacement-fits kind disp (record { fits = fits })
 
-    no-disp : isDisplaced kind ≡ false → displacement kind disp ≡ pos 0
-    unfolding displacement
+    no-disp : isDisplaced kind ≡ false → dispIn kind disp ≡ pos 0
+    unfolding dispIn
     no-disp e = rw e
 
     address-kept : 11 ≤ kind → AddressKept (addressOf kind first second scale disp)

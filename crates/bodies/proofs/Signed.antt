@@ -8,7 +8,7 @@ use lib.IntN.{ℤ, pos, negsuc}
 use mir.Syntax.{w32}
 use mir.Val.{Fits, SFits, sel, toZ}
 use mir.Facts.{sfits-toZ}
-use Rattle.bodies.specs.Decoding.{signed, isDisplaced, displacement}
+use Rattle.bodies.specs.Decoding.{signed, isDisplaced, dispIn}
 
 cond-sel : (t : Bool) (x y : ℤ) → cond t x y ≡ sel t x y
 cond-sel true x y = refl
@@ -24,6 +24,6 @@ either-fits : (t : Bool) (z : ℤ) → SFits w32 z → SFits w32 (cond t z (pos 
 either-fits true z f = f
 either-fits false z f = record { sfits = lit< tt }
 
-pub displacement-fits : (kind bits : ℕ) → Fits w32 bits → SFits w32 (displacement kind bits)
-unfolding displacement
+pub displacement-fits : (kind bits : ℕ) → Fits w32 bits → SFits w32 (dispIn kind bits)
+unfolding dispIn
 displacement-fits kind bits f = either-fits (isDisplaced kind) (signed bits) (signed-fits bits f)

@@ -9,10 +9,8 @@ use Rattle.operands.specs.declared.Address.{Address}
 use Rattle.operands.specs.declared.Operand.{Operand}
 use Rattle.operands.specs.declared.Operand.the-variants.{Absent, Register, Imm, Absolute16, Absolute32, Memory}
 use Rattle.operands.specs.declared.Instruction.{Instruction}
-use Rattle.bodies.specs.declared.Decoded.{Decoded}
-use Rattle.bodies.specs.declared.Decoded.the-variants.{Length, Field, Record}
+use Rattle.operands.specs.Kinds.{registerM, i8, i16, u8, u16, u32, absolute16, absolute32, inBaseDisp, inIndexDisp, inBothDisp}
 use Rattle.bodies.specs.Body.{byte, opcodeOf, flagsOf, lengthOf, sizeOf, immOf, dispOf, countOf, placeOf}
-use Rattle.bodies.specs.Refusals.{lengthRefused, fieldRefused}
 
 -- "disp, signed": 32 bits in two's complement
 abbrev pub signed : ℕ → ℤ
@@ -25,26 +23,26 @@ extended top low = cond (ltb low top) low (low + (2 ^ 32 - (top + top)))
 -- "immediates 3 i8, 4 i16, 5 i32, 6 u8, 7 u16, 8 u32"; "Immediates take the low bits of imm"
 unfoldable pub immediate : ℕ → ℕ → ℕ
 immediate kind imm =
-    cond (eqb kind 3) (extended (2 ^ 7) (imm % 2 ^ 8)) (
-    cond (eqb kind 4) (extended (2 ^ 15) (imm % 2 ^ 16)) (
-    cond (eqb kind 6) (imm % 2 ^ 8) (
-    cond (eqb kind 7) (imm % 2 ^ 16) imm)))
+    cond (eqb kind i8) (extended (2 ^ 7) (imm % 2 ^ 8)) (
+    cond (eqb kind i16) (extended (2 ^ 15) (imm % 2 ^ 16)) (
+    cond (eqb kind u8) (imm % 2 ^ 8) (
+    cond (eqb kind u16) (imm % 2 ^ 16) imm)))
 
 -- "12 `[r disp]` .. 14 the same with disp .. 16 the same with disp"
 abbrev pub isDisplaced : ℕ → Bool
-isDisplaced kind = eqb kind 12 || eqb kind 14 || eqb kind 16
+isDisplaced kind = eqb kind inBaseDisp || eqb kind inIndexDisp || eqb kind inBothDisp
 
 -- the displacement of a kind that has one, else 0
-unfoldable pub displacement : ℕ → ℕ → ℤ
-displacement kind disp = cond (isDisplaced kind) (signed disp) (pos 0)
+unfoldable pub dispIn : ℕ → ℕ → ℤ
+dispIn kind disp = cond (isDisplaced kind) (signed disp) (pos 0)
 
 -- "11 `[r]`, 12 `[r disp]`, 13 index and scale, 14 the same with disp, 15 base, index and scale, 16 the same with disp"; a part that
 -- the kind lacks is false and 0
 unfoldable pub addressOf : ℕ → ℕ → ℕ → ℕ → ℕ → Address
 addressOf kind first second scale disp =
-    cond (leb kind 12) (
+    cond (leb kind inBaseDisp) (
     record {
-      disp = displacement kind disp;
+      disp = dispIn kind disp;
       base = first;
       index = 0;
       scale = 0;
@@ -52,9 +50,9 @@ addressOf kind first second scale disp =
       indexed = false;
       displaced = isDisplaced kind;
     }) (
-    cond (leb kind 14) (
+    cond (leb kind inIndexDisp) (
     record {
-      disp = displacement kind disp;
+      disp = dispIn kind disp;
       base = 0;
       index = first;
       scale = scale;
@@ -63,7 +61,7 @@ addressOf kind first second scale disp =
       displaced = isDisplaced kind;
     }) (
     record {
-      disp = displacement kind disp;
+      disp = dispIn kind disp;
       base = first;
       index = second;
       scale = scale;
@@ -76,10 +74,10 @@ addressOf kind first second scale disp =
 -- 3 .. 8; memory: 9 absolute u16, 10 absolute u32, 11 .."; "absolutes [take] the low bits of disp"
 unfoldable pub operandOf : ℕ → ℕ → ℕ → ℕ → ℕ → ℕ → ℕ → Operand
 operandOf imm disp kind segment first second scale =
-    cond (leb kind 2) (Register kind first) (
-    cond (leb kind 8) (Imm kind (immediate kind imm)) (
-    cond (leb kind 9) (Absolute16 segment (disp % 2 ^ 16)) (
-    cond (leb kind 10) (Absolute32 segment disp) (Memory segment (addressOf kind first second scale disp)))))
+    cond (leb kind registerM) (Register kind first) (
+    cond (leb kind u32) (Imm kind (immediate kind imm)) (
+    cond (leb kind absolute16) (Absolute16 segment (disp % 2 ^ 16)) (
+    cond (leb kind absolute32) (Absolute32 segment disp) (Memory segment (addressOf kind first second scale disp)))))
 
 -- operand k, `Absent` at or past the count
 unfoldable pub operandAt : List ℕ → ℕ → Operand
@@ -103,7 +101,3 @@ instructionOf body =
       c = operandAt body 2;
       d = operandAt body 3;
     }
-
--- "The lowest number that applies is given": answer 2 before answer 3, and else the record
-unfoldable pub decoded : List ℕ → Decoded
-decoded body = cond (lengthRefused body) Length (cond (fieldRefused body) Field (Record (instructionOf body)))

@@ -8,6 +8,7 @@ use Prim.Native.Nat.{ℕ, _-_, _^_, _≤_, _<_}
 use lib.IntN.{pos}
 use mir.Syntax.{w32}
 use mir.Val.{SFits}
+use Rattle.names.specs.Opcodes.{opcodeCount}
 use Rattle.operands.specs.declared.Address.{Address}
 use Rattle.operands.specs.declared.Operand.{Operand}
 use Rattle.operands.specs.declared.Operand.the-variants.{Absent, Register, Imm, Absolute16, Absolute32, Memory}
@@ -63,7 +64,7 @@ Kept (Memory segment address) = (segment ≤ 6) × AddressKept address
 
 -- every field keeps its rule, and no operand stands behind an absent one
 pub record WellFormed (i : Instruction) : Type 0 where
-  pub opcode : i .opcode < 154
+  pub opcode : i .opcode < opcodeCount
   pub flags : i .flags < 64
   pub length-least : 1 ≤ i .length
   pub length-most : i .length ≤ 15

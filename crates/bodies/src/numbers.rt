@@ -3,7 +3,7 @@ ghost use mathlib.Core.Path.{_≡_};
 ghost use Prim.Native.Nat.{_+_, _^_, _≤_, _<_};
 ghost use lib.ListN.{length};
 ghost use Rattle.bodies.specs.Body.{byte, word, dword};
-ghost use Rattle.bodies.specs.Decoding.{signed, immediate, isDisplaced, displacement};
+ghost use Rattle.bodies.specs.Decoding.{signed, immediate, isDisplaced, dispIn};
 
 pub fn byte_at(body: &[u8], at: usize) -> u32
     requires { ⌜ at + 1 ≤ length (now body) ⌝ }
@@ -48,7 +48,7 @@ pub fn is_displaced(kind: u8) -> bool
 }
 
 pub fn displacement_of(kind: u8, disp: u32) -> i32
-    ensures { λ r. ⌜ r ≡ displacement kind disp ⌝ }
+    ensures { λ r. ⌜ r ≡ dispIn kind disp ⌝ }
 {
     if is_displaced(kind) {
         signed_of(disp)

@@ -1,11 +1,10 @@
 // The parts of an accepted body.
 ghost use mathlib.Core.Path.{_≡_};
 ghost use Rattle.bodies.specs.Refusals.{Whole};
-ghost use Rattle.bodies.specs.Body.{immOf, dispOf};
-ghost use Rattle.bodies.specs.Decoding.{addressOf, operandOf, operandAt, instructionOf};
+ghost use Rattle.bodies.specs.Decoding.{addressOf, operandOf, operandAt};
+use crate::fields;
 use crate::numbers;
 use operands::Address;
-use operands::Instruction;
 use operands::Operand;
 
 fn address(kind: u8, first: u8, second: u8, scale: u8, disp: u32) -> Address
@@ -77,18 +76,16 @@ fn operand(imm: u32, disp: u32, kind: u8, segment: u8, first: u8, second: u8, sc
     }
 }
 
-// Operand k of a body whose imm and disp are read already.
-pub fn operand_at(body: &[u8], k: usize, imm: u32, disp: u32) -> Operand
+// Operand k.
+pub fn operand_at(body: &[u8], k: u8) -> Operand
     requires { ⌜ Whole (now body) ⌝ }
-    requires { ⌜ imm ≡ immOf (now body) ⌝ }
-    requires { ⌜ disp ≡ dispOf (now body) ⌝ }
     ensures { λ r. ⌜ r ≡ operandAt (now (body .entry)) k ⌝ }
 {
-    if k < (numbers::byte_at(body, 13) as usize) {
-        let at = 14 + 5 * k;
+    if k < fields::count(body) {
+        let at = 14 + 5 * (k as usize);
         operand(
-            imm,
-            disp,
+            fields::imm(body),
+            fields::disp(body),
             body[at],
             body[at + 1],
             body[at + 2],
@@ -97,24 +94,5 @@ pub fn operand_at(body: &[u8], k: usize, imm: u32, disp: u32) -> Operand
         )
     } else {
         Operand::Absent
-    }
-}
-
-pub fn instruction(body: &[u8]) -> Instruction
-    requires { ⌜ Whole (now body) ⌝ }
-    ensures { λ r. ⌜ r ≡ instructionOf (now (body .entry)) ⌝ }
-{
-    let imm = numbers::dword_at(body, 5);
-    let disp = numbers::dword_at(body, 9);
-    Instruction {
-        opcode: numbers::word_at(body, 0),
-        flags: body[2],
-        length: body[3],
-        size: body[4],
-        imm: imm,
-        a: operand_at(body, 0, imm, disp),
-        b: operand_at(body, 1, imm, disp),
-        c: operand_at(body, 2, imm, disp),
-        d: operand_at(body, 3, imm, disp),
     }
 }

@@ -11,6 +11,7 @@ ghost use Rattle.bodies.specs.Refusals.{
   scaleKept,
 };
 use crate::numbers;
+use names::opcodes::OPCODES;
 
 pub fn length_refused(body: &[u8]) -> bool
     ensures { λ r. ⌜ r ≡ lengthRefused (now (body .entry)) ⌝ }
@@ -90,5 +91,13 @@ pub fn field_refused(body: &[u8]) -> bool
     let b = operand_refused(body, 1);
     let c = operand_refused(body, 2);
     let d = operand_refused(body, 3);
-    (154 <= opcode) | (64 <= flags) | (length < 1) | (15 < length) | (4 < count) | a | b | c | d
+    (OPCODES <= opcode as usize)
+        | (64 <= flags)
+        | (length < 1)
+        | (15 < length)
+        | (4 < count)
+        | a
+        | b
+        | c
+        | d
 }

@@ -5,16 +5,23 @@ ghost use Prim.Native.Nat.{_+_};
 ghost use lib.IntN.{pos, _+ℤ_};
 ghost use Rattle.branches.specs.Sums.{signed, shownSum, branchShown};
 use operands::Shown;
+use operands::kinds::I8;
+use operands::kinds::I32;
+
+// Document 01's modes: 0 is the crate's, 1 shows where a short branch goes.
+pub enum Mode {
+    Crate,
+    Straight,
+}
 
 // A branch operand: its kind, its distance as 32 bits, and the instruction's length.
-pub fn branch_shown(straight: bool, kind: u8, value: u32, length: u8) -> Shown
-    ensures { λ r. ⌜ r ≡ branchShown straight kind value length ⌝ }
+pub fn branch_shown(mode: Mode, kind: u8, value: u32, length: u8) -> Shown
+    ensures { λ r. ⌜ r ≡ branchShown mode kind value length ⌝ }
 {
-    if kind == 3 {
-        if straight {
-            whole_sum(value, length)
-        } else {
-            short_sum(value, length)
+    if kind == I8 {
+        match mode {
+            Mode::Crate => short_sum(value, length),
+            Mode::Straight => whole_sum(value, length),
         }
     } else {
         long_sum(kind, value, length)
@@ -40,7 +47,7 @@ fn long_sum(kind: u8, value: u32, length: u8) -> Shown
 {
     let sum = std::num::wrapping_add_u32(value, length as u32);
     if sum < 0x8000_0000 {
-        if kind == 5 {
+        if kind == I32 {
             if 128 <= sum {
                 forward(sum <= 255, sum)
             } else {

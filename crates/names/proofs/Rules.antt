@@ -11,7 +11,7 @@ use Rattle.text.specs.Words.{every, ascend, distinct, empty, starts}
 use Rattle.text.proofs.Tables.{both-left, both-right, every-at, distinct-at}
 use Rattle.names.specs.Opcodes.{mnemonics, mnemonic, opcodes}
 use Rattle.names.specs.Registers.{segments, registers, registerName}
-use Rattle.names.specs.Words.{labels, prefixes}
+use Rattle.names.specs.Labels.{labels}
 use Rattle.names.specs.Rules.{letter, registerLetter, nameOf, namesRule, registersRule}
 
 -- the tables
@@ -19,14 +19,6 @@ use Rattle.names.specs.Rules.{letter, registerLetter, nameOf, namesRule,
 pub mnemonics-keep : T (namesRule 13 mnemonics)
 unfolding namesRule mnemonics opcodes
 mnemonics-keep = tt
-
-pub labels-keep : T (namesRule 7 labels)
-unfolding namesRule labels
-labels-keep = tt
-
-pub prefixes-keep : T (namesRule 8 prefixes)
-unfolding namesRule prefixes
-prefixes-keep = tt
 
 pub registers-keep : T (registersRule registers)
 unfolding registersRule registers

@@ -1,5 +1,6 @@
 -- The words of a line. Definitions only: the laws are in proofs/.
 pub mod Opcodes
 pub mod Registers
-pub mod Words
+pub mod Labels
 pub mod Rules
+pub mod Among

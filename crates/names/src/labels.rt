@@ -1,19 +1,18 @@
-// The size labels, by their place in document 01's list.
+// The size labels, by their place in the list of labels. The tables are lent.
 ghost use mathlib.Core.Path.{_≡_};
-ghost use Prim.Native.Nat.{_≤_};
-ghost use lib.ListN.{length};
 ghost use Rattle.text.specs.Write.{Room, Put};
-ghost use Rattle.text.specs.Words.{join, starts as startsOf, Table};
-ghost use Rattle.names.specs.Words.{labels, labelWord};
+ghost use Rattle.text.specs.Words.{join, starts as startsOf};
+ghost use Rattle.names.specs.Labels.{labels, labelWord, LabelTable};
 use text::words;
 
-pub type Letters = [u8; 55];
+pub type Letters = [u8; 105];
 
-pub type Starts = [u16; 11];
+pub type Starts = [u16; 12];
 
-const LETTERS: Letters = *b"byteworddwordqwordxmmwordymmwordzmmwordmmwordfwordtbyte";
+const LETTERS: Letters =
+    *b"byte ptr word ptr dword ptr qword ptr xmmword ptr ymmword ptr zmmword ptr mmword ptr fword ptr tbyte ptr ";
 
-const STARTS: Starts = [0, 4, 8, 13, 18, 25, 32, 39, 45, 50, 55];
+const STARTS: Starts = [0, 0, 9, 18, 28, 38, 50, 62, 74, 85, 95, 105];
 
 pub fn letters() -> Letters
     ensures { λ r. ⌜ r ≡ join labels ⌝ }
@@ -27,29 +26,15 @@ pub fn starts() -> Starts
     STARTS
 }
 
-// The word of a label.
-pub fn put_label(buf: &mut [u8], at: usize, label: u8) -> usize
+// A label with its `ptr`. A number that is no label's has none.
+pub fn put_label(buf: &mut [u8], at: usize, letters: &Letters, starts: &Starts, label: u8) -> usize
+    requires { ⌜ LabelTable (now letters) (now starts) ⌝ }
     requires { ⌜ Room (now buf) at (labelWord label) ⌝ }
     ensures { λ r. ⌜ Put (now (buf .entry)) at (labelWord label) r (now (buf .exit)) ⌝ }
 {
     let k = label as usize;
-    if 10 <= k {
+    if 11 <= k {
         return at;
     }
-    let letters = letters();
-    let starts = starts();
-    words::put_word(buf, at, &letters, &starts, k)
-}
-
-pub fn label_length(label: u8) -> usize
-    ensures { λ r. ⌜ r ≡ length (labelWord label) ⌝ }
-    ensures { λ r. ⌜ r ≤ 7 ⌝ }
-{
-    let k = label as usize;
-    if 10 <= k {
-        return 0;
-    }
-    let letters = letters();
-    let starts = starts();
-    words::word_length(&letters, &starts, k)
+    words::put_word(buf, at, letters, starts, k)
 }

@@ -1,9 +1,7 @@
-// The words of a line: mnemonics, registers, segments, labels and prefixes, each a constant table of one text with offsets. The two
-// that are used for each record are made once, above the loop over the records, and lent from there: a constant is stored to the
-// stack at each use. The others are small enough not to matter.
+// The words of a line: the opcodes' names, registers, segments and labels, each a constant table of one text with offsets. All but
+// the segments are made once, above the loop over the records, and lent from there: a constant is stored to the stack at each use.
 pub mod labels;
 pub mod opcodes;
-pub mod prefixes;
 pub mod registers;
 pub mod segments;
 

@@ -1,7 +1,5 @@
 // The opcodes: their names, as one text with an offset for each, and the arm of document 000 that prints each. The tables are lent.
 ghost use mathlib.Core.Path.{_≡_};
-ghost use Prim.Native.Nat.{_≤_};
-ghost use lib.ListN.{length};
 ghost use Rattle.text.specs.Write.{Room, Put};
 ghost use Rattle.text.specs.Words.{join, starts as startsOf};
 ghost use Rattle.names.specs.Opcodes.{mnemonics, mnemonic, armOf, MnemonicTable, ArmTable};
@@ -211,18 +209,6 @@ pub fn put_mnemonic(
         return at;
     }
     words::put_word(buf, at, letters, starts, k)
-}
-
-pub fn mnemonic_length(letters: &Letters, starts: &Starts, opcode: u16) -> usize
-    requires { ⌜ MnemonicTable (now letters) (now starts) ⌝ }
-    ensures { λ r. ⌜ r ≡ length (mnemonic opcode) ⌝ }
-    ensures { λ r. ⌜ r ≤ 13 ⌝ }
-{
-    let k = opcode as usize;
-    if OPCODES <= k {
-        return 0;
-    }
-    words::word_length(letters, starts, k)
 }
 
 // The arm of an opcode; of a number that is no opcode, the general path's.

@@ -1,7 +1,5 @@
 // The register names, by register byte. The tables are lent.
 ghost use mathlib.Core.Path.{_≡_};
-ghost use Prim.Native.Nat.{_≤_};
-ghost use lib.ListN.{length};
 ghost use Rattle.text.specs.Write.{Room, Put};
 ghost use Rattle.text.specs.Words.{join, starts as startsOf};
 ghost use Rattle.names.specs.Registers.{registers, registerName, RegisterTable};
@@ -105,16 +103,4 @@ pub fn put_register(buf: &mut [u8], at: usize, letters: &Letters, starts: &Start
         return at;
     }
     words::put_word(buf, at, letters, starts, k)
-}
-
-pub fn register_length(letters: &Letters, starts: &Starts, reg: u8) -> usize
-    requires { ⌜ RegisterTable (now letters) (now starts) ⌝ }
-    ensures { λ r. ⌜ r ≡ length (registerName reg) ⌝ }
-    ensures { λ r. ⌜ r ≤ 5 ⌝ }
-{
-    let k = reg as usize;
-    if 64 <= k {
-        return 0;
-    }
-    words::word_length(letters, starts, k)
 }

@@ -1,7 +1,5 @@
 // The segment names, by segment number.
 ghost use mathlib.Core.Path.{_≡_};
-ghost use Prim.Native.Nat.{_≤_};
-ghost use lib.ListN.{length};
 ghost use Rattle.text.specs.Write.{Room, Put};
 ghost use Rattle.text.specs.Words.{join, starts as startsOf, Table};
 ghost use Rattle.names.specs.Registers.{segments, segmentName};
@@ -39,17 +37,4 @@ pub fn put_segment(buf: &mut [u8], at: usize, segment: u8) -> usize
     let letters = letters();
     let starts = starts();
     words::put_word(buf, at, &letters, &starts, k)
-}
-
-pub fn segment_length(segment: u8) -> usize
-    ensures { λ r. ⌜ r ≡ length (segmentName segment) ⌝ }
-    ensures { λ r. ⌜ r ≤ 2 ⌝ }
-{
-    let k = segment as usize;
-    if 7 <= k {
-        return 0;
-    }
-    let letters = letters();
-    let starts = starts();
-    words::word_length(&letters, &starts, k)
 }

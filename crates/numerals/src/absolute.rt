@@ -1,7 +1,5 @@
 // An absolute: all its digits, and always an h.
 ghost use mathlib.Core.Path.{_≡_};
-ghost use Prim.Native.Nat.{_≤_};
-ghost use lib.ListN.{length};
 ghost use Rattle.text.specs.Write.{Room, Put};
 ghost use Rattle.numerals.specs.Digits.{top};
 ghost use Rattle.numerals.specs.Numerals.{absolute as absoluteOf};
@@ -29,18 +27,4 @@ pub fn put_absolute32(buf: &mut [u8], at: usize, v: u32) -> usize
     ensures { λ r. ⌜ Put (now (buf .entry)) at (absoluteOf 8 v) r (now (buf .exit)) ⌝ }
 {
     put_absolute(buf, at, 8, v / 0x1000_0000, v)
-}
-
-pub fn absolute16_length(v: u16) -> usize
-    ensures { λ r. ⌜ r ≡ length (absoluteOf 4 v) ⌝ }
-    ensures { λ r. ⌜ r ≤ 6 ⌝ }
-{
-    numeral::figure_length(4, (v / 0x1000) as u32) + 1
-}
-
-pub fn absolute32_length(v: u32) -> usize
-    ensures { λ r. ⌜ r ≡ length (absoluteOf 8 v) ⌝ }
-    ensures { λ r. ⌜ r ≤ 10 ⌝ }
-{
-    numeral::figure_length(8, v / 0x1000_0000) + 1
 }

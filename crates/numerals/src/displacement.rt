@@ -1,7 +1,5 @@
 // A displacement: its sign and the numeral of its size.
 ghost use mathlib.Core.Path.{_≡_};
-ghost use Prim.Native.Nat.{_≤_};
-ghost use lib.ListN.{length};
 ghost use lib.IntN.{natAbs};
 ghost use mir.Syntax.{w32};
 ghost use mir.Val.{SFits};
@@ -46,11 +44,4 @@ pub fn masm_displacement(buf: &mut [u8], at: usize, disp: i32) -> usize
 {
     let next = put_sign(buf, at, disp);
     numeral::put_numeral(buf, next, size_of(disp))
-}
-
-pub fn displacement_length(disp: i32) -> usize
-    ensures { λ r. ⌜ r ≡ length (displacementOf disp) ⌝ }
-    ensures { λ r. ⌜ r ≤ 12 ⌝ }
-{
-    2 + numeral::numeral_length(size_of(disp))
 }

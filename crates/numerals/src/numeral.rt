@@ -1,9 +1,6 @@
 // The numeral of a number of 32 bits.
-ghost use mathlib.Core.Bool.{cond};
 ghost use mathlib.Core.Path.{_≡_};
-ghost use Prim.Native.Nat.{_+_, _≤_};
 ghost use lib.Dec.{leb};
-ghost use lib.ListN.{length};
 ghost use Rattle.text.specs.Write.{Room, Put};
 ghost use Rattle.numerals.specs.Digits.{top};
 ghost use Rattle.numerals.specs.Numerals.{figure, hexAmbiguous, numeral as numeralOf};
@@ -40,21 +37,4 @@ pub fn put_numeral(buf: &mut [u8], at: usize, v: u32) -> usize
     let t = digits::top_of(v);
     let next = put_figure(buf, at, t.places, t.digit, v);
     text::put_when(buf, next, hex_ambiguous(v), b"h")
-}
-
-// How long k digits are, by the top one.
-pub fn figure_length(k: usize, digit: u32) -> usize
-    requires { ⌜ k ≤ 8 ⌝ }
-    ensures { λ r. ⌜ r ≡ cond (leb 10 digit) 1 0 + k ⌝ }
-    ensures { λ r. ⌜ r ≤ k + 1 ⌝ }
-{
-    text::length_when(needs_leading_0(digit), 1) + k
-}
-
-pub fn numeral_length(v: u32) -> usize
-    ensures { λ r. ⌜ r ≡ length (numeralOf v) ⌝ }
-    ensures { λ r. ⌜ r ≤ 10 ⌝ }
-{
-    let t = digits::top_of(v);
-    figure_length(t.places, t.digit) + text::length_when(hex_ambiguous(v), 1)
 }

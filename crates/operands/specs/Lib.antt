@@ -1,2 +1,4 @@
--- What is shown of an operand, and its text. Definitions only: the laws are in proofs/.
+-- What a record says and what a line shows, by value. Definitions only: the laws are in proofs/.
 pub mod Kinds
+pub mod RegisterBytes
+pub mod Parts

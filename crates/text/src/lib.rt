@@ -1,8 +1,6 @@
 // Writing a text into a lent buffer: the one way in which every crate of the printer stores bytes; and words of a table.
-ghost use mathlib.Core.Bool.{cond};
 ghost use mathlib.Core.Path.{_≡_};
 ghost use mathlib.Core.List.{[], _∷_};
-ghost use Prim.Native.Nat.{_≤_};
 ghost use Rattle.text.specs.Choice.{when};
 ghost use Rattle.text.specs.Write.{Room, Put};
 
@@ -36,12 +34,4 @@ pub fn put_when(buf: &mut [u8], at: usize, wanted: bool, t: &[u8]) -> usize
     ensures { λ r. ⌜ Put (now (buf .entry)) at (when wanted (now (t .entry))) r (now (buf .exit)) ⌝ }
 {
     if wanted { put_bytes(buf, at, t) } else { at }
-}
-
-// The length of one that stands only where it is called for.
-pub fn length_when(wanted: bool, t: usize) -> usize
-    ensures { λ r. ⌜ r ≡ cond wanted t 0 ⌝ }
-    ensures { λ r. ⌜ r ≤ t ⌝ }
-{
-    if wanted { t } else { 0 }
 }

@@ -1,6 +1,4 @@
 // A word of a table that is held as one text with an offset for each word.
-ghost use mathlib.Core.Path.{_≡_};
-ghost use lib.ListN.{length};
 ghost use Rattle.text.specs.Write.{Room, Put};
 ghost use Rattle.text.specs.Words.{Stands, wordAt};
 use crate::put_bytes;
@@ -14,12 +12,4 @@ pub fn put_word(buf: &mut [u8], at: usize, letters: &[u8], starts: &[u16], k: us
     let from = starts[k] as usize;
     let to = starts[k + 1] as usize;
     put_bytes(buf, at, &letters[from..to])
-}
-
-// Its length, for which the letters are not wanted.
-pub fn word_length(letters: &[u8], starts: &[u16], k: usize) -> usize
-    requires { ⌜ Stands (now letters) (now starts) k ⌝ }
-    ensures { λ r. ⌜ r ≡ length (wordAt (now (letters .entry)) (now (starts .entry)) k) ⌝ }
-{
-    starts[k + 1] as usize - starts[k] as usize
 }

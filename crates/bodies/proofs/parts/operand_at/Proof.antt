@@ -1,25 +1,28 @@
 -- `bodies::parts::operand_at` meets its contract: below the count the operand's five bytes are there.
 -- Assumes nothing.
 use borrow.Author.Needs.{needs}
-use Rattle.bodies.specs.Decoding.{operandAt}
+use native.Mathlib.Omega.{arith}
+use denote.Ref.{now}
 use borrow.Author.Tests.{lt-ltb, le-ltb}
 use Rattle.bodies.specs.Body.{countOf}
-use denote.Ref.{now}
-use native.Mathlib.Omega.{arith}
+use Rattle.bodies.specs.Decoding.{operandAt}
 use Rattle.bodies.proofs.parts.operand_at.Statement.{statement}
 use Rattle.bodies.proofs.parts.operand_at.Tie as tie
 
-byte-at-requires : tie.Need-byte-at-requires
-byte-at-requires c κs = search needs
-
-cast-if1 : tie.Need-cast-if1
-cast-if1 c = search needs
+count-requires : tie.Need-count-requires
+count-requires c κs = search needs
 
 mul-at : tie.Need-mul-at
 mul-at c = search needs
 
 add-at : tie.Need-add-at
 add-at c = search needs
+
+imm-requires : tie.Need-imm-requires
+imm-requires c κs = search needs
+
+disp-requires : tie.Need-disp-requires
+disp-requires c κs = search needs
 
 shared-slice-read-operand : tie.Need-shared-slice-read-operand
 shared-slice-read-operand c = search needs
@@ -53,23 +56,21 @@ operand-requires c κs = search needs
 
 returns : tie.Need-returns
 unfolding operandAt
-returns c =
-    let s = c .before .before .before .before .before .before .before .before .before in
-    rw (lt-ltb (s .args .k) (countOf (now (s .args .body))) (omega (arith, c .before .before .before .before .before .before)), ← s .pre .1 .0, ← s .pre .1 .1)
-    (c .operand .ensures)
+returns c = let a = (c .before .before .before .before .before .before .before .before .before .before .before .args) in rw (lt-ltb (a .k) (countOf (now (a .body))) (omega (arith, (c .before .before .before .before .before .before .before .before .before .count) .ensures, (c .before .before .before .before .before .before .before .before .if1) .taken)), ← (c .before .before .before .before .before .before .before .imm) .ensures, ← (c .before .before .before .before .before .before .disp) .ensures) ((c .operand) .ensures)
 
 returns-2 : tie.Need-returns-2
 unfolding operandAt
-returns-2 c = let a = c .before .before .before .args in rw (le-ltb (a .k) (countOf (now (a .body))) (omega arith))
+returns-2 c = let a = (c .before .before .before .args) in rw (le-ltb (a .k) (countOf (now (a .body))) (omega (arith, (c .before .count) .ensures, (c .if1) .left)))
 
 pub operand-at-spec : {M : Type 1} → statement M
 operand-at-spec =
     tie.close
     (tie.spec
-    byte-at-requires
-    cast-if1
+    count-requires
     mul-at
     add-at
+    imm-requires
+    disp-requires
     shared-slice-read-operand
     add-operand
     shared-slice-read-operand-2

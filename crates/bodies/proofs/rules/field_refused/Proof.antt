@@ -1,7 +1,7 @@
 -- `bodies::rules::field_refused` meets its contract: each test is what its callee says.
 -- Assumes nothing.
-use borrow.Author.Needs.{needs}
 use Rattle.bodies.specs.Refusals.{fieldRefused}
+use borrow.Author.Needs.{needs}
 use Rattle.bodies.proofs.rules.field_refused.Statement.{statement}
 use Rattle.bodies.proofs.rules.field_refused.Tie as tie
 
@@ -29,6 +29,9 @@ operand-refused-requires-3 c κs = search needs
 operand-refused-requires-4 : tie.Need-operand-refused-requires-4
 operand-refused-requires-4 c κs = search needs
 
+cast-result : tie.Need-cast-result
+cast-result c = search needs
+
 returns : tie.Need-returns
 unfolding fieldRefused
 returns c = cc
@@ -45,4 +48,5 @@ field-refused-spec =
     operand-refused-requires-2
     operand-refused-requires-3
     operand-refused-requires-4
+    cast-result
     returns)

@@ -5,45 +5,23 @@ use borrow.Author.Needs.{needs}
 use Rattle.names.proofs.labels.put_label.Statement.{statement}
 use Rattle.names.proofs.labels.put_label.Tie as tie
 use Rattle.text.proofs.Tables.{word-asked, word-put, no-word-put}
-use Rattle.names.specs.Words.{labels, labelWord}
+use Rattle.names.specs.Labels.{labels, labelWord}
 
 returns : tie.Need-returns
 unfolding labels labelWord
 returns c = no-word-put labels (c .if1 .taken)
 
-letters-requires : tie.Need-letters-requires
-letters-requires c κs = search needs
-
-starts-requires : tie.Need-starts-requires
-starts-requires c κs = search needs
-
-slice-aggregate-put-word : tie.Need-slice-aggregate-put-word
-slice-aggregate-put-word c = search needs
-
-slice-aggregate-put-word-2 : tie.Need-slice-aggregate-put-word-2
-slice-aggregate-put-word-2 c = search needs
-
 put-word-requires : tie.Need-put-word-requires
 unfolding labels labelWord
 put-word-requires c κs =
-    word-asked {ws = labels} (record { text = (c .before .before .before .before .letters .ensures); places = (c .before .before .before .starts .ensures) }) (c .before .before .before .before .before .before .before .args .label) (c .before .before .before .before .before .if1 .left) (c .before .before .before .before .before .before .before .pre)
+    word-asked ((c .before .before .before .before .before .pre .0)) (c .before .before .before .before .before .args .label) (c .before .before .before .if1 .left) (c .before .before .before .before .before .pre .1)
 
 same-length : tie.Need-same-length
 same-length c = search needs
 
 returns-2 : tie.Need-returns-2
 unfolding labels labelWord
-returns-2 c = word-put {ws = labels} (record { text = (c .before .before .before .before .before .before .before .letters .ensures); places = (c .before .before .before .before .before .before .starts .ensures) }) (c .before .before .before .before .before .before .before .before .before .before .args .label) (c .before .before .before .before .before .before .before .before .if1 .left) (c .before .before .put-word .ensures)
+returns-2 c = word-put ((c .before .before .before .before .before .before .before .before .pre .0)) (c .before .before .before .before .before .before .before .before .args .label) (c .before .before .before .before .before .before .if1 .left) (c .before .before .put-word .ensures)
 
 pub put-label-spec : {M : Type 1} → statement M
-put-label-spec =
-    tie.close
-    (tie.spec
-    returns
-    letters-requires
-    starts-requires
-    slice-aggregate-put-word
-    slice-aggregate-put-word-2
-    put-word-requires
-    same-length
-    returns-2)
+put-label-spec = tie.close (tie.spec returns put-word-requires same-length returns-2)

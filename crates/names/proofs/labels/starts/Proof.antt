@@ -3,7 +3,7 @@
 use mathlib.Core.Path.{refl}
 use Rattle.names.proofs.labels.starts.Statement.{statement}
 use Rattle.names.proofs.labels.starts.Tie as tie
-use Rattle.names.specs.Words.{labels}
+use Rattle.names.specs.Labels.{labels}
 
 returns : tie.Need-returns
 unfolding labels

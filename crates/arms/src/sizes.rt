@@ -1,0 +1,45 @@
+// Answer 5: which records are refused for want of a label, read off the plan.
+ghost use mathlib.Core.Path.{_≡_};
+ghost use Rattle.bodies.specs.Refusals.{Whole};
+ghost use Rattle.bodies.specs.Decoding.{instructionOf};
+ghost use Rattle.arms.specs.Missing.{placeLacks, planLacks};
+use bodies::parts::operand_at;
+use operands::kinds::is_memory;
+use places::Place;
+use places::Plan;
+use places::labels::MISSING;
+
+// A label is called for and there is none. The operand is looked at only where its label is missing.
+fn place_lacks(body: &[u8], place: Place) -> bool
+    requires { ⌜ Whole (now body) ⌝ }
+    ensures { λ r. ⌜ r ≡ placeLacks (instructionOf (now (body .entry))) place ⌝ }
+{
+    match place {
+        Place::Nothing => false,
+        Place::Register(_) => false,
+        Place::Branch => false,
+        Place::Operand {
+            k,
+            label,
+            segment: _,
+            short: _,
+        } => {
+            if label == MISSING {
+                is_memory(operand_at(body, k))
+            } else {
+                false
+            }
+        }
+    }
+}
+
+pub fn plan_lacks(body: &[u8], plan: Plan) -> bool
+    requires { ⌜ Whole (now body) ⌝ }
+    ensures { λ r. ⌜ r ≡ planLacks (instructionOf (now (body .entry))) plan ⌝ }
+{
+    let a = plan.a;
+    let b = plan.b;
+    let c = plan.c;
+    let d = plan.d;
+    place_lacks(body, a) | place_lacks(body, b) | place_lacks(body, c) | place_lacks(body, d)
+}

@@ -1,0 +1,92 @@
+-- What an operand has of each kind: its register, its immediate, its segment, and what it shows by itself.
+-- Assumes nothing.
+use mathlib.Core.Bool.{Bool, cond, _&&_}
+use Prim.Native.Nat.{ℕ, zero, suc}
+use lib.Dec.{eqb}
+use Rattle.operands.specs.declared.Operand.{Operand}
+use Rattle.operands.specs.declared.Operand.the-variants.{Absent, Register, Imm, Absolute16, Absolute32, Memory}
+use Rattle.operands.specs.declared.Instruction.{Instruction}
+use Rattle.operands.specs.declared.Label.{Label}
+use Rattle.operands.specs.declared.Label.the-variants.{None}
+use Rattle.operands.specs.declared.Shown.{Shown}
+use Rattle.operands.specs.declared.Shown.the-variants as shown
+use Rattle.operands.specs.declared.Item.{Item}
+use Rattle.operands.specs.Kinds.{isRegister}
+use Rattle.operands.specs.RegisterBytes.{isVectorByte, bank, st0}
+
+-- operand k of a record; from 4 up there is none
+abbrev pub operandIn : Instruction → ℕ → Operand
+operandIn i zero = i .a
+operandIn i (suc zero) = i .b
+operandIn i (suc (suc zero)) = i .c
+operandIn i (suc (suc (suc zero))) = i .d
+operandIn i (suc (suc (suc (suc k)))) = Absent
+
+-- an operand itself: document 000's `visit_operand`
+abbrev pub shownOf : Operand → Shown
+shownOf Absent = shown.Nothing
+shownOf (Register place reg) = shown.Name reg
+shownOf (Imm kind value) = shown.Number value
+shownOf (Absolute16 segment address) = shown.Word address
+shownOf (Absolute32 segment address) = shown.Dword address
+shownOf (Memory segment address) = shown.Bracket address
+
+-- an operand's own segment, 0 for none; what is no memory has none
+abbrev pub segmentOf : Operand → ℕ
+segmentOf Absent = 0
+segmentOf (Register place reg) = 0
+segmentOf (Imm kind value) = 0
+segmentOf (Absolute16 segment address) = segment
+segmentOf (Absolute32 segment address) = segment
+segmentOf (Memory segment address) = segment
+
+-- the register byte of kinds 1 and 2, and 0 of any other operand
+abbrev pub registerOf : Operand → ℕ
+registerOf Absent = 0
+registerOf (Register place reg) = reg
+registerOf (Imm kind value) = 0
+registerOf (Absolute16 segment address) = 0
+registerOf (Absolute32 segment address) = 0
+registerOf (Memory segment address) = 0
+
+-- the kind of an immediate, 3 to 8, and 0 of any other operand
+abbrev pub immediateKind : Operand → ℕ
+immediateKind Absent = 0
+immediateKind (Register place reg) = 0
+immediateKind (Imm kind value) = kind
+immediateKind (Absolute16 segment address) = 0
+immediateKind (Absolute32 segment address) = 0
+immediateKind (Memory segment address) = 0
+
+-- the value of an immediate, and 0 of any other operand
+abbrev pub immediateOf : Operand → ℕ
+immediateOf Absent = 0
+immediateOf (Register place reg) = 0
+immediateOf (Imm kind value) = value
+immediateOf (Absolute16 segment address) = 0
+immediateOf (Absolute32 segment address) = 0
+immediateOf (Memory segment address) = 0
+
+-- a register of the banks 5 to 7
+abbrev pub isVector : Operand → Bool
+isVector o = isRegister o && isVectorByte (registerOf o)
+
+-- a "bank 0 register"
+abbrev pub isBank0 : Operand → Bool
+isBank0 o = isRegister o && eqb (bank (registerOf o)) 0
+
+-- st(0)
+abbrev pub isSt0 : Operand → Bool
+isSt0 o = isRegister o && eqb (registerOf o) st0
+
+-- one operand of a line: its label, its segment and what is shown
+abbrev pub item : Label → ℕ → Shown → Item
+item label segment shown = record { label = label; segment = segment; shown = shown }
+
+-- what is shown with no label and no segment
+abbrev pub bare : Shown → Item
+bare shown = item None 0 shown
+
+-- an operand that the line does not have
+abbrev pub nothing : Item
+nothing = bare shown.Nothing

@@ -1,0 +1,61 @@
+-- What a place shows of a record.
+-- Assumes nothing.
+use mathlib.Core.Bool.{Bool, cond, _&&_}
+use Prim.Native.Nat.{ℕ}
+use lib.Dec.{eqb}
+use Rattle.operands.specs.Kinds.{isMemory}
+use Rattle.operands.specs.Parts.{operandIn, shownOf, segmentOf, immediateKind, immediateOf, isSt0, item, bare, nothing}
+use Rattle.operands.specs.declared.Operand.{Operand}
+use Rattle.operands.specs.declared.Instruction.{Instruction}
+use Rattle.operands.specs.declared.Label.{Label}
+use Rattle.operands.specs.declared.Label.the-variants.{None}
+use Rattle.operands.specs.declared.Shown.{Shown}
+use Rattle.operands.specs.declared.Shown.the-variants.{Name, St}
+use Rattle.operands.specs.declared.Item.{Item}
+use Rattle.operands.specs.declared.Items.{Items}
+use Rattle.branches.specs.declared.Mode.{Mode}
+use Rattle.branches.specs.Sums.{branchShown}
+use Rattle.places.specs.declared.Segment.{Segment}
+use Rattle.places.specs.declared.Segment.the-variants.{Hidden, Shown as Own, UnlessDs}
+use Rattle.places.specs.declared.Place.{Place}
+use Rattle.places.specs.declared.Place.the-variants as place
+use Rattle.places.specs.declared.Plan.{Plan}
+use Rattle.places.specs.Labels.{labelAt}
+
+-- the segment that is shown of an operand, 0 for none; ds is segment 4
+abbrev pub segmentShown : Segment → Operand → ℕ
+segmentShown Hidden o = 0
+segmentShown Own o = segmentOf o
+segmentShown UnlessDs o = cond (eqb (segmentOf o) 4) 0 (segmentOf o)
+
+-- a label stands before memory alone
+abbrev pub labelShown : Label → Operand → Label
+labelShown label o = cond (isMemory o) label None
+
+-- the operand itself; where the place shortens it, `st` for st(0)
+abbrev pub valueShown : Bool → Operand → Shown
+valueShown short o = cond (short && isSt0 o) St (shownOf o)
+
+-- an operand at a place
+unfoldable pub operandShown : Label → Segment → Bool → Operand → Item
+operandShown label segment short o = item (labelShown label o) (segmentShown segment o) (valueShown short o)
+
+-- the branch of a record's operand 0: its kind, its distance and the instruction's length
+abbrev pub branchOf : Mode → Instruction → Shown
+branchOf mode i = branchShown mode (immediateKind (i .a)) (immediateOf (i .a)) (i .length)
+
+unfoldable pub itemAt : Mode → Instruction → Place → Item
+itemAt mode i place.Nothing = nothing
+itemAt mode i (place.Register reg) = bare (Name reg)
+itemAt mode i place.Branch = bare (branchOf mode i)
+itemAt mode i (place.Operand k label segment short) = operandShown (labelAt label) segment short (operandIn i k)
+
+-- what a plan shows, from the left
+unfoldable pub itemsAt : Mode → Instruction → Plan → Items
+itemsAt mode i plan =
+    record {
+      a = itemAt mode i (plan .a);
+      b = itemAt mode i (plan .b);
+      c = itemAt mode i (plan .c);
+      d = itemAt mode i (plan .d);
+    }
