@@ -1,5 +1,7 @@
 // Answer 5: which records are refused for want of a label, read off the plan.
 ghost use mathlib.Core.Path.{_≡_};
+ghost use Prim.Native.Nat.{_≤_};
+ghost use Rattle.bodies.specs.Body.{countOf};
 ghost use Rattle.bodies.specs.Refusals.{Whole};
 ghost use Rattle.bodies.specs.Decoding.{instructionOf};
 ghost use Rattle.arms.specs.Missing.{placeLacks, planLacks};
@@ -12,6 +14,7 @@ use places::labels::MISSING;
 // A label is called for and there is none. The operand is looked at only where its label is missing.
 fn place_lacks(body: &[u8], place: Place) -> bool
     requires { ⌜ Whole (now body) ⌝ }
+    requires { ⌜ countOf (now body) ≤ 4 ⌝ }
     ensures { λ r. ⌜ r ≡ placeLacks (instructionOf (now (body .entry))) place ⌝ }
 {
     match place {
@@ -35,6 +38,7 @@ fn place_lacks(body: &[u8], place: Place) -> bool
 
 pub fn plan_lacks(body: &[u8], plan: Plan) -> bool
     requires { ⌜ Whole (now body) ⌝ }
+    requires { ⌜ countOf (now body) ≤ 4 ⌝ }
     ensures { λ r. ⌜ r ≡ planLacks (instructionOf (now (body .entry))) plan ⌝ }
 {
     let a = plan.a;

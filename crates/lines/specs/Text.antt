@@ -2,7 +2,7 @@
 -- Assumes nothing.
 use mathlib.Core.Bool.{Bool, true, false}
 use mathlib.Core.List.{List, [], _++_}
-use Prim.Native.Nat.{ℕ}
+use Prim.Native.Nat.{ℕ, zero, suc}
 use Rattle.text.specs.Choice.{when}
 use Rattle.text.specs.Words.{bytes}
 use Rattle.names.specs.Opcodes.{mnemonic}
@@ -10,17 +10,25 @@ use Rattle.operands.specs.declared.Shown.{Shown}
 use Rattle.operands.specs.declared.Shown.the-variants.{Nothing, Name, St, Number, Word, Dword, Bracket, Branch}
 use Rattle.operands.specs.declared.Item.{Item}
 use Rattle.operands.specs.declared.Items.{Items}
-use Rattle.items.specs.Items.{itemText}
-use Rattle.arrange.specs.declared.Head.{Head}
-use Rattle.arrange.specs.declared.Line.{Line}
-use Rattle.arrange.specs.declared.Name.{Name as Mnemonic}
-use Rattle.arrange.specs.declared.Name.the-variants.{Opcode, Feni, Fdisi, Fsetpm}
+use Rattle.lines.specs.Items.{itemText}
+use Rattle.operands.specs.declared.Instruction.{Instruction}
+use Rattle.branches.specs.declared.Mode.{Mode}
+use Rattle.names.specs.declared.Arm.{Arm}
+use Rattle.places.specs.declared.Plan.{Plan}
+use Rattle.places.specs.Places.{itemsAt}
+use Rattle.lines.specs.Head.{headOf}
+use Rattle.lines.specs.declared.Head.{Head}
+use Rattle.lines.specs.declared.Line.{Line}
+use Rattle.lines.specs.declared.Name.{Name as Mnemonic}
+use Rattle.lines.specs.declared.Name.the-variants.{Opcode, Feni, Fdisi, Fsetpm}
 
--- the prefix words in the printed order, a blank behind each
+-- the prefix words in the printed order, a blank after each
+unfoldable pub repsText : Head → List ℕ
+repsText h = when (h .rep) (bytes "rep ") ++ when (h .repne) (bytes "repne ")
+
 unfoldable pub prefixesText : Head → List ℕ
 prefixesText h =
-    when (h .xacquire) (bytes "xacquire ")
-    ++ (when (h .xrelease) (bytes "xrelease ") ++ (when (h .lock) (bytes "lock ") ++ (when (h .rep) (bytes "rep ") ++ when (h .repne) (bytes "repne "))))
+    when (h .xacquire) (bytes "xacquire ") ++ (when (h .xrelease) (bytes "xrelease ") ++ (when (h .lock) (bytes "lock ") ++ repsText h))
 
 -- the name of an opcode, or one of the three words that are no opcode's name
 unfoldable pub nameText : Mnemonic → List ℕ
@@ -44,15 +52,31 @@ shows (Dword address) = true
 shows (Bracket address) = true
 shows (Branch near minus size) = true
 
--- an operand that shows something, behind what parts it from the text before
+-- an operand that shows something, after what parts it from the text before
 unfoldable pub partedText : List ℕ → Item → List ℕ
 partedText separator i = when (shows (i .shown)) (separator ++ itemText i)
 
--- the operands, the first behind a blank and the others behind ", "
+-- the operands, the first after a blank and the others after ", "
 unfoldable pub itemsText : Items → List ℕ
 itemsText is =
     partedText (bytes " ") (is .a)
     ++ (partedText (bytes ", ") (is .b) ++ (partedText (bytes ", ") (is .c) ++ partedText (bytes ", ") (is .d)))
 
+-- the operands from number k on
+abbrev pub itemsFrom : ℕ → Items → List ℕ
+itemsFrom zero is = itemsText is
+itemsFrom (suc zero) is = partedText (bytes ", ") (is .b) ++ (partedText (bytes ", ") (is .c) ++ partedText (bytes ", ") (is .d))
+itemsFrom (suc (suc zero)) is = partedText (bytes ", ") (is .c) ++ partedText (bytes ", ") (is .d)
+itemsFrom (suc (suc (suc zero))) is = partedText (bytes ", ") (is .d)
+itemsFrom (suc (suc (suc (suc k)))) is = []
+
 unfoldable pub lineText : Line → List ℕ
 lineText l = headText (l .head) ++ itemsText (l .items)
+
+-- what the line of a plan shows: its head by the arm, opcode and flags, and its operands by the places
+abbrev pub lineBy : Mode → Arm → Plan → Instruction → Line
+lineBy mode arm plan i = record { head = headOf arm (i .opcode) (i .flags); items = itemsAt mode i plan }
+
+-- the longest line: "No line exceeds 256 bytes"
+abbrev pub longestLine : ℕ
+longestLine = 256

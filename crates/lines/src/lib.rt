@@ -1,4 +1,36 @@
-// The text of a line, its length, and its put. What a line shows comes from the crate `arrange`; only here does it become letters.
-pub mod head;
-pub mod line;
-pub mod shown;
+// The text of a line and its put. A line is never built: its head is printed from the arm and the flags, its places straight from
+// the record's body.
+pub mod bracket;
+pub mod heads;
+pub mod place;
+pub mod print;
+
+use operands::Items;
+
+// "No line exceeds 256 bytes."
+pub const LONGEST_LINE: usize = 256;
+
+// The mnemonic: an opcode's own name, or one of the three words that are no opcode's name.
+pub enum Name {
+    Opcode(u16),
+    Feni,
+    Fdisi,
+    Fsetpm,
+}
+
+// What stands before the operands: the prefix words in the printed order, the mnemonic, and whether a `d` is after it.
+pub struct Head {
+    pub xacquire: bool,
+    pub xrelease: bool,
+    pub lock: bool,
+    pub rep: bool,
+    pub repne: bool,
+    pub name: Name,
+    pub suffix: bool,
+}
+
+// What a line shows, made from the record's fields and its arm and never from text: what the promises speak of.
+pub struct Line {
+    pub head: Head,
+    pub items: Items,
+}

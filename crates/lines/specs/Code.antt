@@ -1,0 +1,42 @@
+-- What single functions of the code are asked for, and no promise: names for parts of the texts.
+-- Assumes nothing.
+use mathlib.Core.Bool.{Bool, cond, _&&_}
+use mathlib.Core.List.{List, _++_}
+use Prim.Native.Nat.{ℕ, zero, suc}
+use lib.Dec.{eqb}
+use Rattle.text.specs.Words.{bytes}
+use Rattle.names.specs.Labels.{labelWord}
+use Rattle.names.specs.Registers.{registerName}
+use Rattle.operands.specs.RegisterBytes.{st0}
+use Rattle.places.specs.declared.Segment.{Segment}
+use Rattle.places.specs.declared.Segment.the-variants.{Hidden, Shown, UnlessDs}
+use Rattle.places.specs.declared.Place.{Place}
+use Rattle.places.specs.declared.Place.the-variants.{Nothing}
+use Rattle.places.specs.declared.Plan.{Plan}
+use Rattle.lines.specs.Fronts.{segmentText}
+
+-- the segment that a place shows of one that an operand has
+abbrev pub shownSegment : Segment → ℕ → ℕ
+shownSegment Hidden own = 0
+shownSegment Shown own = own
+shownSegment UnlessDs own = cond (eqb own 4) 0 own
+
+-- a label, by its number, and a segment
+abbrev pub frontText : ℕ → ℕ → List ℕ
+frontText label segment = labelWord label ++ segmentText segment
+
+-- a register, but `st` for st(0) where it is shortened
+abbrev pub registerText : Bool → ℕ → List ℕ
+registerText short reg = cond (short && eqb reg st0) (bytes "st") (registerName reg)
+
+-- place k of a plan
+abbrev pub placeAt : Plan → ℕ → Place
+placeAt plan zero = plan .a
+placeAt plan (suc zero) = plan .b
+placeAt plan (suc (suc zero)) = plan .c
+placeAt plan (suc (suc (suc zero))) = plan .d
+placeAt plan (suc (suc (suc (suc k)))) = Nothing
+
+-- what parts the operand at place k from the text before it
+abbrev pub separatorAt : ℕ → List ℕ
+separatorAt k = cond (eqb k 0) (bytes " ") (bytes ", ")

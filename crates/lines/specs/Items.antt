@@ -1,0 +1,39 @@
+-- The text of an operand: its label, its segment and what is shown.
+-- Assumes nothing.
+use mathlib.Core.Bool.{Bool, cond}
+use mathlib.Core.List.{List, [], _++_}
+use Prim.Native.Nat.{ℕ}
+use Rattle.text.specs.Choice.{when}
+use Rattle.text.specs.Words.{bytes}
+use Rattle.numerals.specs.Numerals.{numeral, absolute}
+use Rattle.names.specs.Registers.{registerName}
+use Rattle.operands.specs.declared.Item.{Item}
+use Rattle.operands.specs.declared.Shown.{Shown}
+use Rattle.operands.specs.declared.Shown.the-variants.{Nothing, Name, St, Number, Word, Dword, Bracket, Branch}
+use Rattle.lines.specs.Fronts.{labelText, segmentText}
+use Rattle.lines.specs.Brackets.{bracketText}
+
+-- an absolute stands in a bracket
+unfoldable pub absoluteText : ℕ → ℕ → List ℕ
+absoluteText k address = bytes "[" ++ (absolute k address ++ bytes "]")
+
+-- "`$`, sign .."
+abbrev pub signText : Bool → List ℕ
+signText minus = cond minus (bytes "$-") (bytes "$+")
+
+-- "`$`, sign and numeral of distance plus length", with "`near ptr ` in front" where it is called for
+unfoldable pub branchText : Bool → Bool → ℕ → List ℕ
+branchText near minus size = when near (bytes "near ptr ") ++ (signText minus ++ numeral size)
+
+unfoldable pub shownText : Shown → List ℕ
+shownText Nothing = []
+shownText (Name reg) = registerName reg
+shownText St = bytes "st"
+shownText (Number value) = numeral value
+shownText (Word address) = absoluteText 4 address
+shownText (Dword address) = absoluteText 8 address
+shownText (Bracket address) = bracketText address
+shownText (Branch near minus size) = branchText near minus size
+
+unfoldable pub itemText : Item → List ℕ
+itemText i = labelText (i .label) ++ (segmentText (i .segment) ++ shownText (i .shown))

@@ -1,0 +1,356 @@
+// A place of a line, printed straight from the record's body.
+ghost use mathlib.Core.Path.{_≡_};
+ghost use Prim.Native.Nat.{_≤_};
+ghost use Rattle.text.specs.Write.{Room, Put};
+ghost use Rattle.names.specs.Registers.{RegisterTable};
+ghost use Rattle.names.specs.Labels.{LabelTable};
+ghost use Rattle.bodies.specs.Body.{countOf};
+ghost use Rattle.bodies.specs.Refusals.{Whole};
+ghost use Rattle.bodies.specs.Decoding.{instructionOf};
+ghost use Rattle.places.specs.Labels.{labelAt};
+ghost use Rattle.places.specs.Places.{operandShown, branchOf, itemAt, itemsAt};
+ghost use Rattle.lines.specs.Fronts.{segmentText};
+ghost use Rattle.lines.specs.Items.{absoluteText, signText, branchText, shownText, itemText};
+ghost use Rattle.lines.specs.Text.{shows, itemsText};
+ghost use Rattle.lines.specs.Code.{shownSegment, frontText, registerText, placeAt, separatorAt};
+use crate::bracket;
+use bodies::fields;
+use bodies::parts::operand_at;
+use branches::Mode;
+use names::labels;
+use names::registers;
+use operands::Operand;
+use operands::Shown;
+use operands::parts::immediate_kind;
+use operands::parts::immediate_of;
+use places::Place;
+use places::Plan;
+use places::Segment;
+
+fn put_word(buf: &mut [u8], at: usize, address: u16) -> usize
+    requires { ⌜ Room (now buf) at (absoluteText 4 address) ⌝ }
+    ensures { λ r. ⌜ Put (now (buf .entry)) at (absoluteText 4 address) r (now (buf .exit)) ⌝ }
+{
+    let next = text::put_byte(buf, at, b'[');
+    let next = numerals::absolute::put_absolute16(buf, next, address);
+    text::put_byte(buf, next, b']')
+}
+
+fn put_dword(buf: &mut [u8], at: usize, address: u32) -> usize
+    requires { ⌜ Room (now buf) at (absoluteText 8 address) ⌝ }
+    ensures { λ r. ⌜ Put (now (buf .entry)) at (absoluteText 8 address) r (now (buf .exit)) ⌝ }
+{
+    let next = text::put_byte(buf, at, b'[');
+    let next = numerals::absolute::put_absolute32(buf, next, address);
+    text::put_byte(buf, next, b']')
+}
+
+fn put_sign(buf: &mut [u8], at: usize, minus: bool) -> usize
+    requires { ⌜ Room (now buf) at (signText minus) ⌝ }
+    ensures { λ r. ⌜ Put (now (buf .entry)) at (signText minus) r (now (buf .exit)) ⌝ }
+{
+    if minus {
+        text::put_bytes(buf, at, b"$-")
+    } else {
+        text::put_bytes(buf, at, b"$+")
+    }
+}
+
+fn put_sum(buf: &mut [u8], at: usize, near: bool, minus: bool, size: u32) -> usize
+    requires { ⌜ Room (now buf) at (branchText near minus size) ⌝ }
+    ensures { λ r. ⌜ Put (now (buf .entry)) at (branchText near minus size) r (now (buf .exit)) ⌝ }
+{
+    let next = text::put_when(buf, at, near, b"near ptr ");
+    let next = put_sign(buf, next, minus);
+    numerals::numeral::put_numeral(buf, next, size)
+}
+
+// The branch of operand 0.
+fn put_branch(buf: &mut [u8], at: usize, body: &[u8], mode: Mode) -> usize
+    requires { ⌜ Whole (now body) ⌝ }
+    requires { ⌜ Room (now buf) at (shownText (branchOf mode (instructionOf (now body)))) ⌝ }
+    ensures { λ r. ⌜ Put (now (buf .entry)) at (shownText (branchOf mode (instructionOf (now (body .entry))))) r (now (buf .exit)) ⌝ }
+{
+    let a = operand_at(body, 0);
+    let shown = branches::branch_shown(
+        mode,
+        immediate_kind(a),
+        immediate_of(a),
+        fields::length(body),
+    );
+    if let Shown::Branch { near, minus, size } = shown {
+        put_sum(buf, at, near, minus, size)
+    } else {
+        at
+    }
+}
+
+// The segment that a place shows of one that an operand has; 0 is none, and ds is 4.
+fn shown_segment(segment: Segment, own: u8) -> u8
+    ensures { λ r. ⌜ r ≡ shownSegment segment own ⌝ }
+{
+    match segment {
+        Segment::Hidden => 0,
+        Segment::Shown => own,
+        Segment::UnlessDs => { if own == 4 { 0 } else { own } }
+    }
+}
+
+fn put_segment(buf: &mut [u8], at: usize, segment: u8) -> usize
+    requires { ⌜ Room (now buf) at (segmentText segment) ⌝ }
+    ensures { λ r. ⌜ Put (now (buf .entry)) at (segmentText segment) r (now (buf .exit)) ⌝ }
+{
+    if 0 < segment {
+        let next = names::segments::put_segment(buf, at, segment);
+        text::put_byte(buf, next, b':')
+    } else {
+        at
+    }
+}
+
+// What stands before an operand that is memory: its label and the segment that is shown.
+fn put_front(
+    buf: &mut [u8],
+    at: usize,
+    letters: &labels::Letters,
+    starts: &labels::Starts,
+    label: u8,
+    segment: u8,
+) -> usize
+    requires { ⌜ LabelTable (now letters) (now starts) ⌝ }
+    requires { ⌜ Room (now buf) at (frontText label segment) ⌝ }
+    ensures { λ r. ⌜ Put (now (buf .entry)) at (frontText label segment) r (now (buf .exit)) ⌝ }
+{
+    let next = labels::put_label(buf, at, letters, starts, label);
+    put_segment(buf, next, segment)
+}
+
+// A register, but `st` for st(0) where the place shortens it.
+fn put_name(
+    buf: &mut [u8],
+    at: usize,
+    letters: &registers::Letters,
+    starts: &registers::Starts,
+    short: bool,
+    reg: u8,
+) -> usize
+    requires { ⌜ RegisterTable (now letters) (now starts) ⌝ }
+    requires { ⌜ Room (now buf) at (registerText short reg) ⌝ }
+    ensures { λ r. ⌜ Put (now (buf .entry)) at (registerText short reg) r (now (buf .exit)) ⌝ }
+{
+    if short & (reg == 32) {
+        return text::put_bytes(buf, at, b"st");
+    }
+    registers::put_register(buf, at, letters, starts, reg)
+}
+
+fn put_operand(
+    buf: &mut [u8],
+    at: usize,
+    register_letters: &registers::Letters,
+    register_starts: &registers::Starts,
+    label_letters: &labels::Letters,
+    label_starts: &labels::Starts,
+    label: u8,
+    segment: Segment,
+    short: bool,
+    o: Operand,
+) -> usize
+    requires { ⌜ RegisterTable (now «register_letters») (now «register_starts») ⌝ }
+    requires { ⌜ LabelTable (now «label_letters») (now «label_starts») ⌝ }
+    requires { ⌜ Room (now buf) at (itemText (operandShown (labelAt label) segment short o)) ⌝ }
+    ensures { λ r. ⌜ Put (now (buf .entry)) at (itemText (operandShown (labelAt label) segment short o)) r (now (buf .exit)) ⌝ }
+{
+    match o {
+        Operand::Absent => at,
+        Operand::Register { place: _, reg } => put_name(
+            buf,
+            at,
+            register_letters,
+            register_starts,
+            short,
+            reg,
+        ),
+        Operand::Imm { kind: _, value } => numerals::numeral::put_numeral(buf, at, value),
+        Operand::Absolute16 {
+            segment: own,
+            address,
+        } => {
+            let next = put_front(
+                buf,
+                at,
+                label_letters,
+                label_starts,
+                label,
+                shown_segment(segment, own),
+            );
+            put_word(buf, next, address)
+        }
+        Operand::Absolute32 {
+            segment: own,
+            address,
+        } => {
+            let next = put_front(
+                buf,
+                at,
+                label_letters,
+                label_starts,
+                label,
+                shown_segment(segment, own),
+            );
+            put_dword(buf, next, address)
+        }
+        Operand::Memory {
+            segment: own,
+            address,
+        } => {
+            let next = put_front(
+                buf,
+                at,
+                label_letters,
+                label_starts,
+                label,
+                shown_segment(segment, own),
+            );
+            bracket::put_bracket(buf, next, register_letters, register_starts, address)
+        }
+    }
+}
+
+// What a place shows, where it shows something.
+fn put_place(
+    buf: &mut [u8],
+    at: usize,
+    register_letters: &registers::Letters,
+    register_starts: &registers::Starts,
+    label_letters: &labels::Letters,
+    label_starts: &labels::Starts,
+    body: &[u8],
+    mode: Mode,
+    place: Place,
+) -> usize
+    requires { ⌜ RegisterTable (now «register_letters») (now «register_starts») ⌝ }
+    requires { ⌜ LabelTable (now «label_letters») (now «label_starts») ⌝ }
+    requires { ⌜ Whole (now body) ⌝ }
+    requires { ⌜ countOf (now body) ≤ 4 ⌝ }
+    requires { ⌜ Room (now buf) at (itemText (itemAt mode (instructionOf (now body)) place)) ⌝ }
+    ensures { λ r. ⌜ Put (now (buf .entry)) at (itemText (itemAt mode (instructionOf (now (body .entry))) place)) r (now (buf .exit)) ⌝ }
+{
+    match place {
+        Place::Nothing => at,
+        Place::Register(reg) => registers::put_register(
+            buf,
+            at,
+            register_letters,
+            register_starts,
+            reg,
+        ),
+        Place::Branch => put_branch(buf, at, body, mode),
+        Place::Operand {
+            k,
+            label,
+            segment,
+            short,
+        } => put_operand(
+            buf,
+            at,
+            register_letters,
+            register_starts,
+            label_letters,
+            label_starts,
+            label,
+            segment,
+            short,
+            operand_at(body, k),
+        ),
+    }
+}
+
+// Whether a place shows something.
+fn shows_something(body: &[u8], place: Place) -> bool
+    requires { ⌜ Whole (now body) ⌝ }
+    requires { ⌜ countOf (now body) ≤ 4 ⌝ }
+    ensures { λ r. ⌜ ((mode : Mode) → r ≡ shows (itemAt mode (instructionOf (now (body .entry))) place .shown)) ⌝ }
+{
+    match place {
+        Place::Nothing => false,
+        Place::Register(_) => true,
+        Place::Branch => true,
+        Place::Operand {
+            k,
+            label: _,
+            segment: _,
+            short: _,
+        } => k < fields::count(body),
+    }
+}
+
+// What parts the operand at place k from the text before it.
+fn put_separator(buf: &mut [u8], at: usize, k: u8) -> usize
+    requires { ⌜ Room (now buf) at (separatorAt k) ⌝ }
+    ensures { λ r. ⌜ Put (now (buf .entry)) at (separatorAt k) r (now (buf .exit)) ⌝ }
+{
+    if k == 0 {
+        text::put_byte(buf, at, b' ')
+    } else {
+        text::put_bytes(buf, at, b", ")
+    }
+}
+
+fn place_at(plan: Plan, k: u8) -> Place
+    ensures { λ r. ⌜ r ≡ placeAt plan k ⌝ }
+{
+    let a = plan.a;
+    let b = plan.b;
+    let c = plan.c;
+    let d = plan.d;
+    match k {
+        0 => a,
+        1 => b,
+        2 => c,
+        3 => d,
+        _ => Place::Nothing,
+    }
+}
+
+// The places of a plan, each after what parts it from the text before.
+pub fn put_places(
+    buf: &mut [u8],
+    at: usize,
+    register_letters: &registers::Letters,
+    register_starts: &registers::Starts,
+    label_letters: &labels::Letters,
+    label_starts: &labels::Starts,
+    body: &[u8],
+    mode: Mode,
+    plan: Plan,
+) -> usize
+    requires { ⌜ RegisterTable (now «register_letters») (now «register_starts») ⌝ }
+    requires { ⌜ LabelTable (now «label_letters») (now «label_starts») ⌝ }
+    requires { ⌜ Whole (now body) ⌝ }
+    requires { ⌜ countOf (now body) ≤ 4 ⌝ }
+    requires { ⌜ Room (now buf) at (itemsText (itemsAt mode (instructionOf (now body)) plan)) ⌝ }
+    ensures { λ r. ⌜ Put (now (buf .entry)) at (itemsText (itemsAt mode (instructionOf (now (body .entry))) plan)) r (now (buf .exit)) ⌝ }
+{
+    let mut k = 0;
+    let mut next = at;
+    while k < 4 {
+        let place = place_at(plan, k);
+        if shows_something(body, place) {
+            next = put_separator(buf, next, k);
+            next = put_place(
+                buf,
+                next,
+                register_letters,
+                register_starts,
+                label_letters,
+                label_starts,
+                body,
+                mode,
+                place,
+            );
+        }
+        k += 1;
+    }
+    next
+}

@@ -1,0 +1,57 @@
+// A whole line of a record that is not refused. The tables are lent.
+ghost use Rattle.text.specs.Write.{Room, Put};
+ghost use Rattle.names.specs.Opcodes.{MnemonicTable};
+ghost use Rattle.names.specs.Registers.{RegisterTable};
+ghost use Rattle.names.specs.Labels.{LabelTable};
+ghost use Prim.Native.Nat.{_≤_};
+ghost use Rattle.bodies.specs.Body.{countOf};
+ghost use Rattle.bodies.specs.Refusals.{Whole};
+ghost use Rattle.bodies.specs.Decoding.{instructionOf};
+ghost use Rattle.lines.specs.Text.{lineBy, lineText};
+use crate::heads;
+use crate::place;
+use bodies::fields;
+use branches::Mode;
+use names::Arm;
+use names::labels;
+use names::opcodes;
+use names::registers;
+use places::Plan;
+
+pub fn put_line(
+    buf: &mut [u8],
+    at: usize,
+    name_letters: &opcodes::Letters,
+    name_starts: &opcodes::Starts,
+    register_letters: &registers::Letters,
+    register_starts: &registers::Starts,
+    label_letters: &labels::Letters,
+    label_starts: &labels::Starts,
+    body: &[u8],
+    mode: Mode,
+    arm: Arm,
+    plan: Plan,
+) -> usize
+    requires { ⌜ MnemonicTable (now «name_letters») (now «name_starts») ⌝ }
+    requires { ⌜ RegisterTable (now «register_letters») (now «register_starts») ⌝ }
+    requires { ⌜ LabelTable (now «label_letters») (now «label_starts») ⌝ }
+    requires { ⌜ Whole (now body) ⌝ }
+    requires { ⌜ countOf (now body) ≤ 4 ⌝ }
+    requires { ⌜ Room (now buf) at (lineText (lineBy mode arm plan (instructionOf (now body)))) ⌝ }
+    ensures { λ r. ⌜ Put (now (buf .entry)) at (lineText (lineBy mode arm plan (instructionOf (now (body .entry))))) r (now (buf .exit)) ⌝ }
+{
+    let opcode = fields::opcode(body);
+    let flags = fields::flags(body);
+    let next = heads::put_head(buf, at, name_letters, name_starts, arm, opcode, flags);
+    place::put_places(
+        buf,
+        next,
+        register_letters,
+        register_starts,
+        label_letters,
+        label_starts,
+        body,
+        mode,
+        plan,
+    )
+}
