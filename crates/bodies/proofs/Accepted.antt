@@ -12,7 +12,8 @@ use Rattle.operands.specs.declared.Operand.{Operand}
 use Rattle.operands.specs.declared.Operand.the-variants.{Absent}
 use Rattle.operands.specs.Kinds.{isAbsent}
 use Rattle.names.specs.Opcodes.{opcodeCount}
-use Rattle.bodies.specs.Body.{byte, dword, opcodeOf, flagsOf, lengthOf, immOf, dispOf, countOf, placeOf}
+use Rattle.frames.specs.Numbers.{byte, dword}
+use Rattle.bodies.specs.Body.{opcodeOf, flagsOf, lengthOf, immOf, dispOf, countOf, placeOf}
 use Rattle.bodies.specs.Refusals.{operandRefused, fieldRefused}
 use Rattle.bodies.specs.Decoding.{operandOf, operandAt, instructionOf}
 use Rattle.bodies.specs.WellFormed.{Bytes, Kept, WellFormed}

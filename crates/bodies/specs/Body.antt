@@ -1,20 +1,8 @@
--- The fields of a record body, by document 01's table. "All numbers are big-endian."
+-- The fields of a record body, by document 01's table.
 -- Assumes nothing.
 use mathlib.Core.List.{List}
-use Prim.Native.Nat.{ℕ, _+_, _*_, _^_}
-use lib.ListN.{getD}
-
--- the byte at a place
-abbrev pub byte : List ℕ → ℕ → ℕ
-byte body at = getD body at 0
-
--- a number of two bytes
-abbrev pub word : List ℕ → ℕ → ℕ
-word body at = byte body at * 2 ^ 8 + byte body (at + 1)
-
--- a number of four bytes
-abbrev pub dword : List ℕ → ℕ → ℕ
-dword body at = byte body at * 2 ^ 24 + byte body (at + 1) * 2 ^ 16 + byte body (at + 2) * 2 ^ 8 + byte body (at + 3)
+use Prim.Native.Nat.{ℕ, _+_, _*_}
+use Rattle.frames.specs.Numbers.{byte, word, dword}
 
 -- "2 | opcode"
 abbrev pub opcodeOf : List ℕ → ℕ

@@ -10,7 +10,8 @@ use Rattle.operands.specs.declared.Operand.{Operand}
 use Rattle.operands.specs.declared.Operand.the-variants.{Absent, Register, Imm, Absolute16, Absolute32, Memory}
 use Rattle.operands.specs.declared.Instruction.{Instruction}
 use Rattle.operands.specs.Kinds.{registerM, i8, i16, u8, u16, u32, absolute16, absolute32, inBaseDisp, inIndexDisp, inBothDisp}
-use Rattle.bodies.specs.Body.{byte, opcodeOf, flagsOf, lengthOf, sizeOf, immOf, dispOf, countOf, placeOf}
+use Rattle.frames.specs.Numbers.{byte}
+use Rattle.bodies.specs.Body.{opcodeOf, flagsOf, lengthOf, sizeOf, immOf, dispOf, countOf, placeOf}
 
 -- "disp, signed": 32 bits in two's complement
 abbrev pub signed : ℕ → ℤ

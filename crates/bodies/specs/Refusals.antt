@@ -9,7 +9,8 @@ use lib.ListN.{length}
 use Rattle.operands.specs.Kinds.{registerR, registerM, absolute16, inBase, inIndex, inBoth, inBothDisp}
 use Rattle.operands.specs.RegisterBytes.{isRegisterByte, isAddressByte}
 use Rattle.names.specs.Opcodes.{opcodeCount}
-use Rattle.bodies.specs.Body.{byte, opcodeOf, flagsOf, lengthOf, countOf, placeOf}
+use Rattle.frames.specs.Numbers.{byte}
+use Rattle.bodies.specs.Body.{opcodeOf, flagsOf, lengthOf, countOf, placeOf}
 
 -- answer 2: "body under 14 bytes or not 14 + 5n (n as stored)"
 unfoldable pub lengthRefused : List ℕ → Bool

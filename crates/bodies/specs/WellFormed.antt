@@ -14,7 +14,7 @@ use Rattle.operands.specs.declared.Operand.{Operand}
 use Rattle.operands.specs.declared.Operand.the-variants.{Absent, Register, Imm, Absolute16, Absolute32, Memory}
 use Rattle.operands.specs.declared.Instruction.{Instruction}
 use Rattle.operands.specs.Kinds.{isAbsent}
-use Rattle.bodies.specs.Body.{byte}
+use Rattle.frames.specs.Numbers.{byte}
 
 -- the numbers of the list are bytes, as those of a slice of bytes are
 abbrev pub Bytes : List ℕ → Type 0

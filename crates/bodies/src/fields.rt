@@ -2,13 +2,12 @@
 ghost use mathlib.Core.Path.{_≡_};
 ghost use Rattle.bodies.specs.Refusals.{Whole};
 ghost use Rattle.bodies.specs.Body.{opcodeOf, flagsOf, lengthOf, sizeOf, immOf, dispOf, countOf};
-use crate::numbers;
 
 pub fn opcode(body: &[u8]) -> u16
     requires { ⌜ Whole (now body) ⌝ }
     ensures { λ r. ⌜ r ≡ opcodeOf (now (body .entry)) ⌝ }
 {
-    numbers::word_at(body, 0)
+    frames::numbers::word_at(body, 0)
 }
 
 pub fn flags(body: &[u8]) -> u8
@@ -36,14 +35,14 @@ pub fn imm(body: &[u8]) -> u32
     requires { ⌜ Whole (now body) ⌝ }
     ensures { λ r. ⌜ r ≡ immOf (now (body .entry)) ⌝ }
 {
-    numbers::dword_at(body, 5)
+    frames::numbers::dword_at(body, 5)
 }
 
 pub fn disp(body: &[u8]) -> u32
     requires { ⌜ Whole (now body) ⌝ }
     ensures { λ r. ⌜ r ≡ dispOf (now (body .entry)) ⌝ }
 {
-    numbers::dword_at(body, 9)
+    frames::numbers::dword_at(body, 9)
 }
 
 pub fn count(body: &[u8]) -> u8

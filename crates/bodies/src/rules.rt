@@ -10,7 +10,6 @@ ghost use Rattle.bodies.specs.Refusals.{
   secondKept,
   scaleKept,
 };
-use crate::numbers;
 use names::opcodes::OPCODES;
 
 pub fn length_refused(body: &[u8]) -> bool
@@ -19,7 +18,7 @@ pub fn length_refused(body: &[u8]) -> bool
     if body.len() < 14 {
         true
     } else {
-        body.len() != 14 + 5 * (numbers::byte_at(body, 13) as usize)
+        body.len() != 14 + 5 * (frames::numbers::byte_at(body, 13) as usize)
     }
 }
 
@@ -66,7 +65,7 @@ fn operand_refused(body: &[u8], k: usize) -> bool
     requires { ⌜ Whole (now body) ⌝ }
     ensures { λ r. ⌜ r ≡ operandRefused (now (body .entry)) k ⌝ }
 {
-    if k < (numbers::byte_at(body, 13) as usize) {
+    if k < (frames::numbers::byte_at(body, 13) as usize) {
         let at = 14 + 5 * k;
         let kind = body[at];
         let segment = segment_kept(kind, body[at + 1]);
@@ -83,7 +82,7 @@ pub fn field_refused(body: &[u8]) -> bool
     requires { ⌜ Whole (now body) ⌝ }
     ensures { λ r. ⌜ r ≡ fieldRefused (now (body .entry)) ⌝ }
 {
-    let opcode = numbers::word_at(body, 0);
+    let opcode = frames::numbers::word_at(body, 0);
     let flags = body[2];
     let length = body[3];
     let count = body[13];

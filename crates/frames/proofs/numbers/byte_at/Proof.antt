@@ -1,9 +1,9 @@
--- `bodies::numbers::byte_at` meets its contract: the rule for the slice bounds the byte.
+-- `frames::numbers::byte_at` meets its contract: the rule for the slice bounds the byte.
 -- Assumes nothing.
 use borrow.Author.Needs.{needs}
 use native.Mathlib.Omega.{arith}
-use Rattle.bodies.proofs.numbers.byte_at.Statement.{statement}
-use Rattle.bodies.proofs.numbers.byte_at.Tie as tie
+use Rattle.frames.proofs.numbers.byte_at.Statement.{statement}
+use Rattle.frames.proofs.numbers.byte_at.Tie as tie
 
 shared-slice-read-result : tie.Need-shared-slice-read-result
 shared-slice-read-result c = search needs

@@ -1,0 +1,34 @@
+-- "records: a two-byte length, then that many body bytes. All numbers are big-endian."
+-- Assumes nothing.
+use mathlib.Core.Bool.{Bool, _&&_, cond}
+use mathlib.Core.List.{List}
+use Prim.Native.Nat.{ℕ, _+_}
+use lib.Dec.{eqb, leb}
+use lib.ListN.{length, take, drop}
+use Rattle.frames.specs.Numbers.{word}
+use Rattle.frames.specs.declared.Frame.{Frame}
+use Rattle.frames.specs.declared.Frame.the-variants.{Whole, Cut}
+
+-- the length that stands in front
+abbrev pub bodyLength : List ℕ → ℕ
+bodyLength xs = word xs 0
+
+-- all bytes of the frame in front are there
+abbrev pub isWhole : List ℕ → Bool
+isWhole xs = leb 2 (length xs) && leb (2 + bodyLength xs) (length xs)
+
+-- its body
+abbrev pub bodyOf : List ℕ → List ℕ
+bodyOf xs = take (bodyLength xs) (drop 2 xs)
+
+-- how many bytes belong to what stands in front: the whole frame, or all that is left of one that is cut
+abbrev pub frameSize : List ℕ → ℕ
+frameSize xs = cond (isWhole xs) (2 + bodyLength xs) (length xs)
+
+-- what stands at a place of a listing: a whole frame, by the places of its body, or too few bytes for one
+abbrev pub frameAt : List ℕ → ℕ → Frame
+frameAt listing at = cond (isWhole (drop at listing)) (Whole (at + 2) (at + 2 + bodyLength (drop at listing))) Cut
+
+-- "one version byte, 1, then records"
+abbrev pub knownVersion : ℕ → Bool
+knownVersion version = eqb version 1

@@ -1,0 +1,41 @@
+// A listing's frames: the version byte, then a two-byte length, big-endian, and that many body bytes. What is cut is said here too.
+ghost use mathlib.Core.Path.{_≡_};
+ghost use Prim.Native.Nat.{_≤_};
+ghost use lib.ListN.{length};
+ghost use Rattle.frames.specs.Frames.{frameAt, knownVersion};
+
+pub mod numbers;
+
+// The version byte that is known.
+pub const VERSION: u8 = 1;
+
+// What stands at a place of a listing: a whole frame, by the places of its body, or too few bytes for one.
+pub enum Frame {
+    Whole { start: usize, end: usize },
+    Cut,
+}
+
+pub fn known_version(version: u8) -> bool
+    ensures { λ r. ⌜ r ≡ knownVersion version ⌝ }
+{
+    version == VERSION
+}
+
+pub fn frame_at(listing: &[u8], at: usize) -> Frame
+    requires { ⌜ at ≤ length (now listing) ⌝ }
+    ensures { λ r. ⌜ r ≡ frameAt (now (listing .entry)) at ⌝ }
+{
+    let left = listing.len() - at;
+    if left < 2 {
+        return Frame::Cut;
+    }
+    let size = numbers::word_at(listing, at) as usize;
+    if left - 2 < size {
+        return Frame::Cut;
+    }
+    let start = at + 2;
+    Frame::Whole {
+        start,
+        end: start + size,
+    }
+}
