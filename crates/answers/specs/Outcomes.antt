@@ -2,7 +2,7 @@
 -- Assumes nothing.
 use mathlib.Core.Path.{_≡_}
 use mathlib.Core.Bool.{Bool, cond, _||_}
-use mathlib.Core.List.{List, [], _∷_}
+use mathlib.Core.List.{List, [], _∷_, _++_}
 use Prim.Native.Nat.{ℕ}
 use lib.Dec.{ltb, eqb}
 use lib.ListN as list
@@ -13,6 +13,10 @@ use Rattle.answers.specs.declared.Answer.{Answer}
 -- "6 room: the text is longer than the buffer"
 abbrev pub roomRefused : List ℕ → List ℕ → Bool
 roomRefused text buf = ltb (list.length buf) (list.length text)
+
+-- the refusals of an entry point's own, and last the one for room
+abbrev pub withRoom : List Refusal → (text buf : List ℕ) → List Refusal
+withRoom refusals text buf = refusals ++ (refusal room (roomRefused text buf) ∷ [])
 
 -- "0 printed: bytes written", "6 room: bytes needed", and 0 with every other answer
 abbrev pub lengthWith : ℕ → List ℕ → ℕ

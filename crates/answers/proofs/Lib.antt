@@ -1,0 +1,4 @@
+pub mod Firsts
+pub mod Outcomes
+pub mod Unique
+pub mod Lines
