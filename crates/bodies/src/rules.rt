@@ -12,6 +12,9 @@ ghost use Rattle.bodies.specs.Refusals.{
 };
 use names::opcodes::OPCODES;
 
+// The longest body whose length can be right: the count is a byte.
+pub const LONGEST_BODY: usize = 1289;
+
 pub fn length_refused(body: &[u8]) -> bool
     ensures { λ r. ⌜ r ≡ lengthRefused (now (body .entry)) ⌝ }
 {

@@ -3,7 +3,12 @@
 use mathlib.Core.Path.{_≡_}
 use mathlib.Core.List.{List}
 use Prim.Native.Nat.{ℕ, _+_, _*_, _^_}
-use Rattle.records.specs.Answers.{Outcome}
+use Rattle.answers.specs.Outcomes.{Outcome}
+use Rattle.records.specs.declared.Asked.{Asked}
+
+-- what a C program asks for by plain numbers
+abbrev pub asked : ℕ → Asked
+asked mode = record { mode = mode }
 
 abbrev pub packed : Outcome → ℕ
 packed o = o .answer * 2 ^ 32 + o .length

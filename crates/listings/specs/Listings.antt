@@ -1,11 +1,13 @@
--- The outcome of the listing entry point for all listings, modes and buffers.
+-- The outcome of the listing entry point for all listings, all that is asked, and all buffers.
 -- Assumes nothing.
-use mathlib.Core.Bool.{Bool, false}
+use mathlib.Core.Bool.{Bool}
 use mathlib.Core.List.{List, [], _∷_}
 use Prim.Native.Nat.{ℕ}
 use lib.Dec.{ltb}
-use lib.ListN.{length}
-use Rattle.records.specs.Answers.{lowest, roomRefused, Outcome, outcomeOf}
+use lib.ListN as list
+use Rattle.answers.specs.Refusals.{Refusal, refusal, mode, length, answerOf}
+use Rattle.answers.specs.Outcomes.{Outcome, outcomeOf, withRoom}
+use Rattle.records.specs.declared.Asked.{Asked}
 use Rattle.records.specs.Records.{modeRefused}
 use Rattle.listings.specs.Lines.{listingText}
 
@@ -14,10 +16,10 @@ abbrev pub sizeLimit : ℕ
 sizeLimit = 16_777_216
 
 -- of a listing's refusals only mode, length and room can apply: a record's own stand in its line
-unfoldable pub listingRefusals : ℕ → List ℕ → List ℕ → List Bool
-listingRefusals mode listing buf =
-    modeRefused mode ∷ ltb sizeLimit (length listing) ∷ false ∷ false ∷ false ∷ roomRefused (listingText mode listing) buf ∷ []
+unfoldable pub listingRefusals : Asked → List ℕ → List Refusal
+listingRefusals asked listing =
+    refusal mode (modeRefused asked) ∷ refusal length (ltb sizeLimit (list.length listing)) ∷ []
 
-unfoldable pub listingOutcome : ℕ → List ℕ → List ℕ → Outcome
-listingOutcome mode listing buf =
-    outcomeOf (lowest 1 (listingRefusals mode listing buf)) (listingText mode listing) buf
+unfoldable pub listingOutcome : Asked → (listing buf : List ℕ) → Outcome
+listingOutcome asked listing buf =
+    outcomeOf (answerOf (withRoom (listingRefusals asked listing) (listingText asked listing) buf)) (listingText asked listing) buf

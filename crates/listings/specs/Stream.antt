@@ -4,12 +4,16 @@ use mathlib.Core.Path.{_≡_}
 use mathlib.Core.Bool.{Bool, true, false, cond}
 use mathlib.Core.List.{List, [], _∷_, _++_}
 use Prim.Native.Nat.{ℕ, _+_, _-_}
-use lib.Dec.{eqb, ltb}
+use lib.Dec.{ltb}
 use lib.ListN.{length, drop}
 use Rattle.text.specs.Choice.{when}
 use Rattle.text.specs.Write.{Put}
-use Rattle.listings.specs.Frames.{bodyLength, bodyOf}
-use Rattle.listings.specs.Lines.{newline, refusedText, recordLine, cutLine, versionLine, linesOf, listingText}
+use Rattle.frames.specs.Frames.{bodyLength, bodyOf, knownVersion}
+use Rattle.bodies.specs.Refusals.{longestBody}
+use Rattle.answers.specs.Lines.{refusedLine}
+use Rattle.answers.specs.Refusals.{length as lengthNumber}
+use Rattle.records.specs.declared.Asked.{Asked}
+use Rattle.listings.specs.Lines.{recordLine, cutLine, versionLine, linesOf, listingText}
 use Rattle.listings.specs.declared.Stage.{Stage}
 use Rattle.listings.specs.declared.Stage.the-variants.{Version, Frames, Skip, Done}
 
@@ -25,27 +29,27 @@ taken stage used says = record { stage = stage; used = used; says = says }
 -- the version byte
 abbrev pub versionStep : List ℕ → Taken
 versionStep [] = taken Version 0 []
-versionStep (version ∷ xs) = cond (eqb version 1) (taken Frames 1 []) (taken Done 1 versionLine)
+versionStep (version ∷ xs) = cond (knownVersion version) (taken Frames 1 []) (taken Done 1 versionLine)
 
--- a frame: nothing until it is whole; a body over 1,289 bytes, which is no record's, is only counted
-abbrev pub frameStep : ℕ → List ℕ → Taken
-frameStep mode xs =
+-- a frame: nothing until it is whole; a longer body than any that is right, which is no record's, is only counted
+abbrev pub frameStep : Asked → List ℕ → Taken
+frameStep asked xs =
     cond (ltb (length xs) 2) (taken Frames 0 [])
-    (cond (ltb 1289 (bodyLength xs)) (taken (Skip (bodyLength xs)) 2 [])
+    (cond (ltb longestBody (bodyLength xs)) (taken (Skip (bodyLength xs)) 2 [])
     (cond (ltb (length xs) (2 + bodyLength xs)) (taken Frames 0 [])
-    (taken Frames (2 + bodyLength xs) (recordLine mode (bodyOf xs)))))
+    (taken Frames (2 + bodyLength xs) (recordLine asked (bodyOf xs)))))
 
 -- the bytes of such a body: it is refused once all of them have come by
 abbrev pub skipStep : ℕ → List ℕ → Taken
 skipStep left xs =
     cond (ltb (length xs) left) (taken (Skip (left - length xs)) (length xs) [])
-    (taken Frames left (refusedText 2 ++ newline))
+    (taken Frames left (refusedLine lengthNumber))
 
-unfoldable pub stepped : ℕ → Stage → List ℕ → Taken
-stepped mode Version xs = versionStep xs
-stepped mode Frames xs = frameStep mode xs
-stepped mode (Skip left) xs = skipStep left xs
-stepped mode Done xs = taken Done (length xs) []
+unfoldable pub stepped : Asked → Stage → List ℕ → Taken
+stepped asked Version xs = versionStep xs
+stepped asked Frames xs = frameStep asked xs
+stepped asked (Skip left) xs = skipStep left xs
+stepped asked Done xs = taken Done (length xs) []
 
 -- where the input ends with so many bytes held, it is cut, or not
 abbrev pub cutAt : Stage → ℕ → Bool
@@ -61,15 +65,15 @@ pub record Took (t : Taken) (before : List ℕ) (out : ℕ) (stage : Stage) (use
   pub put : Put before out (t .says) next after
 
 -- what a listing still has to say from a stage on, if all that is to come is xs: the definition, in parts
-unfoldable pub remaining : ℕ → Stage → List ℕ → List ℕ
-remaining mode Version xs = listingText mode xs
-remaining mode Frames xs = linesOf mode xs
-remaining mode (Skip left) xs = cond (ltb (length xs) left) cutLine (refusedText 2 ++ newline ++ linesOf mode (drop left xs))
-remaining mode Done xs = []
+unfoldable pub remaining : Asked → Stage → List ℕ → List ℕ
+remaining asked Version xs = listingText asked xs
+remaining asked Frames xs = linesOf asked xs
+remaining asked (Skip left) xs = cond (ltb (length xs) left) cutLine (refusedLine lengthNumber ++ linesOf asked (drop left xs))
+remaining asked Done xs = []
 
 -- The input cut into reads in any way, and what the steps write. `held` are the bytes that are there.
 --   read: more bytes come; step: a step is taken; end: no bytes come any more, and no step uses any
-pub data Streams (mode : ℕ) : Stage → List ℕ → List (List ℕ) → List ℕ → Type 0 where
-  read : {stage : Stage} {held bytes : List ℕ} {reads : List (List ℕ)} {written : List ℕ} → Streams mode stage (held ++ bytes) reads written → Streams mode stage held (bytes ∷ reads) written
-  step : {stage : Stage} {held : List ℕ} {reads : List (List ℕ)} {written : List ℕ} → Streams mode (stepped mode stage held .stage) (drop (stepped mode stage held .used) held) reads written → Streams mode stage held reads (stepped mode stage held .says ++ written)
-  end : {stage : Stage} {held : List ℕ} → stepped mode stage held .used ≡ 0 → Streams mode stage held [] (when (cutAt stage (length held)) cutLine)
+pub data Streams (asked : Asked) : Stage → List ℕ → List (List ℕ) → List ℕ → Type 0 where
+  read : {stage : Stage} {held bytes : List ℕ} {reads : List (List ℕ)} {written : List ℕ} → Streams asked stage (held ++ bytes) reads written → Streams asked stage held (bytes ∷ reads) written
+  step : {stage : Stage} {held : List ℕ} {reads : List (List ℕ)} {written : List ℕ} → Streams asked (stepped asked stage held .stage) (drop (stepped asked stage held .used) held) reads written → Streams asked stage held reads (stepped asked stage held .says ++ written)
+  end : {stage : Stage} {held : List ℕ} → stepped asked stage held .used ≡ 0 → Streams asked stage held [] (when (cutAt stage (length held)) cutLine)

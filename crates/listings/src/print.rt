@@ -4,54 +4,63 @@ ghost use Prim.Native.Nat.{_≤_};
 ghost use lib.ListN.{length, drop};
 ghost use Rattle.names.specs.Opcodes.{MnemonicTable, ArmTable};
 ghost use Rattle.names.specs.Registers.{RegisterTable};
-ghost use Rattle.records.specs.Answers.{textOutcome, Gives};
+ghost use Rattle.names.specs.Labels.{LabelTable};
+ghost use Rattle.answers.specs.Outcomes.{textOutcome, Gives};
 ghost use Rattle.listings.specs.Lines.{linesOf};
-ghost use Rattle.listings.specs.Listings.{listingOutcome};
-use crate::frames;
+ghost use Rattle.listings.specs.Listings.{sizeLimit, listingOutcome};
 use crate::walk;
+use answers::Answer;
+use answers::LENGTH;
+use answers::MODE;
+use answers::PRINTED;
+use answers::ROOM;
+use names::labels;
 use names::opcodes;
 use names::registers;
-use records::Answer;
+use records::Asked;
 
-// A text that is the same for every listing that has it.
-fn print_fixed(fixed: &[u8], text: &mut [u8]) -> Answer
-    ensures { λ r. ⌜ Gives (textOutcome (now (fixed .entry)) (now (text .entry))) r (now (text .exit)) ⌝ }
-{
-    if text.len() < fixed.len() {
-        return Answer::Room(fixed.len());
-    }
-    let written = text::put_bytes(text, 0, fixed);
-    Answer::Printed(written)
-}
+// "listing over 16,777,216 bytes"
+const SIZE_LIMIT: usize = 16_777_216;
+
+// No listing has more bytes of lines than this many times its own: see `Rooms`.
+const ROOM_FACTOR: usize = 9;
 
 fn print_fitting(
     name_letters: &opcodes::Letters,
     name_starts: &opcodes::Starts,
     register_letters: &registers::Letters,
     register_starts: &registers::Starts,
+    label_letters: &labels::Letters,
+    label_starts: &labels::Starts,
     arms: &opcodes::Arms,
     listing: &[u8],
-    mode: u32,
+    asked: Asked,
     text: &mut [u8],
 ) -> Answer
     requires { ⌜ MnemonicTable (now «name_letters») (now «name_starts») ⌝ }
     requires { ⌜ RegisterTable (now «register_letters») (now «register_starts») ⌝ }
+    requires { ⌜ LabelTable (now «label_letters») (now «label_starts») ⌝ }
     requires { ⌜ ArmTable (now arms) ⌝ }
     requires { ⌜ 1 ≤ length (now listing) ⌝ }
-    requires { ⌜ length (linesOf mode (drop 1 (now listing))) ≤ length (now text) ⌝ }
-    ensures { λ r. ⌜ Gives (textOutcome (linesOf mode (drop 1 (now (listing .entry)))) (now (text .entry))) r (now (text .exit)) ⌝ }
+    requires { ⌜ length (linesOf asked (drop 1 (now listing))) ≤ length (now text) ⌝ }
+    ensures { λ r. ⌜ Gives (textOutcome (linesOf asked (drop 1 (now (listing .entry)))) (now (text .entry))) r (now (text .exit)) ⌝ }
 {
     let written = walk::put_lines(
         name_letters,
         name_starts,
         register_letters,
         register_starts,
+        label_letters,
+        label_starts,
         arms,
         listing,
-        mode,
+        asked,
         text,
     );
-    Answer::Printed(written)
+    Answer {
+        number: PRINTED,
+        length: written,
+    }
 }
 
 // The lines of a listing of the known version. They are measured first only where they might not fit.
@@ -60,26 +69,31 @@ fn print_lines(
     name_starts: &opcodes::Starts,
     register_letters: &registers::Letters,
     register_starts: &registers::Starts,
+    label_letters: &labels::Letters,
+    label_starts: &labels::Starts,
     arms: &opcodes::Arms,
     listing: &[u8],
-    mode: u32,
+    asked: Asked,
     text: &mut [u8],
 ) -> Answer
     requires { ⌜ MnemonicTable (now «name_letters») (now «name_starts») ⌝ }
     requires { ⌜ RegisterTable (now «register_letters») (now «register_starts») ⌝ }
+    requires { ⌜ LabelTable (now «label_letters») (now «label_starts») ⌝ }
     requires { ⌜ ArmTable (now arms) ⌝ }
-    requires { ⌜ (1 ≤ length (now listing)) × (length (now listing) ≤ 16777216) ⌝ }
-    ensures { λ r. ⌜ Gives (textOutcome (linesOf mode (drop 1 (now (listing .entry)))) (now (text .entry))) r (now (text .exit)) ⌝ }
+    requires { ⌜ (1 ≤ length (now listing)) × (length (now listing) ≤ sizeLimit) ⌝ }
+    ensures { λ r. ⌜ Gives (textOutcome (linesOf asked (drop 1 (now (listing .entry)))) (now (text .entry))) r (now (text .exit)) ⌝ }
 {
-    if frames::most_bytes(listing) <= text.len() {
+    if ROOM_FACTOR * listing.len() <= text.len() {
         return print_fitting(
             name_letters,
             name_starts,
             register_letters,
             register_starts,
+            label_letters,
+            label_starts,
             arms,
             listing,
-            mode,
+            asked,
             text,
         );
     }
@@ -88,21 +102,28 @@ fn print_lines(
         name_starts,
         register_letters,
         register_starts,
+        label_letters,
+        label_starts,
         arms,
         listing,
-        mode,
+        asked,
     );
     if text.len() < needed {
-        return Answer::Room(needed);
+        return Answer {
+            number: ROOM,
+            length: needed,
+        };
     }
     print_fitting(
         name_letters,
         name_starts,
         register_letters,
         register_starts,
+        label_letters,
+        label_starts,
         arms,
         listing,
-        mode,
+        asked,
         text,
     )
 }
@@ -112,36 +133,47 @@ pub fn print_listing(
     name_starts: &opcodes::Starts,
     register_letters: &registers::Letters,
     register_starts: &registers::Starts,
+    label_letters: &labels::Letters,
+    label_starts: &labels::Starts,
     arms: &opcodes::Arms,
     listing: &[u8],
-    mode: u32,
+    asked: Asked,
     text: &mut [u8],
 ) -> Answer
     requires { ⌜ MnemonicTable (now «name_letters») (now «name_starts») ⌝ }
     requires { ⌜ RegisterTable (now «register_letters») (now «register_starts») ⌝ }
+    requires { ⌜ LabelTable (now «label_letters») (now «label_starts») ⌝ }
     requires { ⌜ ArmTable (now arms) ⌝ }
-    ensures { λ r. ⌜ Gives (listingOutcome mode (now (listing .entry)) (now (text .entry))) r (now (text .exit)) ⌝ }
+    ensures { λ r. ⌜ Gives (listingOutcome asked (now (listing .entry)) (now (text .entry))) r (now (text .exit)) ⌝ }
 {
-    if 1 < mode {
-        return Answer::Mode;
+    if 1 < asked.mode {
+        return Answer {
+            number: MODE,
+            length: 0,
+        };
     }
-    if 16_777_216 < listing.len() {
-        return Answer::Length;
+    if SIZE_LIMIT < listing.len() {
+        return Answer {
+            number: LENGTH,
+            length: 0,
+        };
     }
     if listing.len() == 0 {
-        return print_fixed(b"; cut\n", text);
+        return answers::print_text(b"; cut\n", text);
     }
-    if listing[0] == 1 {
+    if frames::known_version(listing[0]) {
         return print_lines(
             name_letters,
             name_starts,
             register_letters,
             register_starts,
+            label_letters,
+            label_starts,
             arms,
             listing,
-            mode,
+            asked,
             text,
         );
     }
-    print_fixed(b"; version\n", text)
+    answers::print_text(b"; version\n", text)
 }

@@ -1,20 +1,26 @@
-// A listing that arrives in parts: what the listing programs repeat. A frame can be longer than their buffer, but a body over
-// 1,289 bytes is refused by its length alone, so its bytes are only counted.
+// A listing that arrives in parts: what the listing programs repeat. A frame can be longer than their buffer, but a longer body than
+// any that is right is refused by its length alone, so its bytes are only counted.
 ghost use mathlib.Core.Path.{_≡_};
 ghost use Prim.Native.Nat.{_+_, _≤_};
 ghost use lib.ListN.{length};
+ghost use Rattle.text.specs.Write.{Room, Put};
 ghost use Rattle.names.specs.Opcodes.{MnemonicTable, ArmTable};
 ghost use Rattle.names.specs.Registers.{RegisterTable};
-ghost use Rattle.text.specs.Write.{Room, Put};
+ghost use Rattle.names.specs.Labels.{LabelTable};
+ghost use Rattle.lines.specs.Text.{longestLine};
 ghost use Rattle.listings.specs.Stream.{Took, versionStep, skipStep, frameStep, stepped, cutAt};
 use crate::Stage;
 use crate::Step;
 use crate::record_line;
+use answers::LENGTH;
+use bodies::rules::LONGEST_BODY;
+use names::labels;
 use names::opcodes;
 use names::registers;
+use records::Asked;
 
 fn step_version(input: &[u8], text: &mut [u8], out: usize) -> Step
-    requires { ⌜ out + 257 ≤ length (now text) ⌝ }
+    requires { ⌜ out + longestLine + 1 ≤ length (now text) ⌝ }
     ensures { λ r. ⌜ Took (versionStep (now (input .entry))) (now (text .entry)) out (r .stage) (r .used) (r .out) (now (text .exit)) ⌝ }
 {
     if input.len() == 0 {
@@ -24,7 +30,7 @@ fn step_version(input: &[u8], text: &mut [u8], out: usize) -> Step
             out,
         };
     }
-    if input[0] == 1 {
+    if frames::known_version(input[0]) {
         return Step {
             stage: Stage::Frames,
             used: 1,
@@ -40,7 +46,7 @@ fn step_version(input: &[u8], text: &mut [u8], out: usize) -> Step
 }
 
 fn step_skip(left: usize, input: &[u8], text: &mut [u8], out: usize) -> Step
-    requires { ⌜ out + 257 ≤ length (now text) ⌝ }
+    requires { ⌜ out + longestLine + 1 ≤ length (now text) ⌝ }
     ensures { λ r. ⌜ Took (skipStep left (now (input .entry))) (now (text .entry)) out (r .stage) (r .used) (r .out) (now (text .exit)) ⌝ }
 {
     let here = input.len();
@@ -51,7 +57,7 @@ fn step_skip(left: usize, input: &[u8], text: &mut [u8], out: usize) -> Step
             out,
         };
     }
-    let next = text::put_bytes(text, out, b"; refused 2\n");
+    let next = answers::put_refused(text, out, LENGTH);
     Step {
         stage: Stage::Frames,
         used: left,
@@ -64,17 +70,20 @@ fn step_frame(
     name_starts: &opcodes::Starts,
     register_letters: &registers::Letters,
     register_starts: &registers::Starts,
+    label_letters: &labels::Letters,
+    label_starts: &labels::Starts,
     arms: &opcodes::Arms,
     input: &[u8],
-    mode: u32,
+    asked: Asked,
     text: &mut [u8],
     out: usize,
 ) -> Step
     requires { ⌜ MnemonicTable (now «name_letters») (now «name_starts») ⌝ }
     requires { ⌜ RegisterTable (now «register_letters») (now «register_starts») ⌝ }
+    requires { ⌜ LabelTable (now «label_letters») (now «label_starts») ⌝ }
     requires { ⌜ ArmTable (now arms) ⌝ }
-    requires { ⌜ out + 257 ≤ length (now text) ⌝ }
-    ensures { λ r. ⌜ Took (frameStep mode (now (input .entry))) (now (text .entry)) out (r .stage) (r .used) (r .out) (now (text .exit)) ⌝ }
+    requires { ⌜ out + longestLine + 1 ≤ length (now text) ⌝ }
+    ensures { λ r. ⌜ Took (frameStep asked (now (input .entry))) (now (text .entry)) out (r .stage) (r .used) (r .out) (now (text .exit)) ⌝ }
 {
     if input.len() < 2 {
         return Step {
@@ -83,8 +92,8 @@ fn step_frame(
             out,
         };
     }
-    let size = bodies::numbers::word_at(input, 0) as usize;
-    if 1289 < size {
+    let size = frames::numbers::word_at(input, 0) as usize;
+    if LONGEST_BODY < size {
         return Step {
             stage: Stage::Skip(size),
             used: 2,
@@ -104,9 +113,11 @@ fn step_frame(
         name_starts,
         register_letters,
         register_starts,
+        label_letters,
+        label_starts,
         arms,
         &input[2..end],
-        mode,
+        asked,
         text,
         out,
     );
@@ -122,18 +133,21 @@ pub fn step(
     name_starts: &opcodes::Starts,
     register_letters: &registers::Letters,
     register_starts: &registers::Starts,
+    label_letters: &labels::Letters,
+    label_starts: &labels::Starts,
     arms: &opcodes::Arms,
     stage: Stage,
     input: &[u8],
-    mode: u32,
+    asked: Asked,
     text: &mut [u8],
     out: usize,
 ) -> Step
     requires { ⌜ MnemonicTable (now «name_letters») (now «name_starts») ⌝ }
     requires { ⌜ RegisterTable (now «register_letters») (now «register_starts») ⌝ }
+    requires { ⌜ LabelTable (now «label_letters») (now «label_starts») ⌝ }
     requires { ⌜ ArmTable (now arms) ⌝ }
-    requires { ⌜ out + 257 ≤ length (now text) ⌝ }
-    ensures { λ r. ⌜ Took (stepped mode stage (now (input .entry))) (now (text .entry)) out (r .stage) (r .used) (r .out) (now (text .exit)) ⌝ }
+    requires { ⌜ out + longestLine + 1 ≤ length (now text) ⌝ }
+    ensures { λ r. ⌜ Took (stepped asked stage (now (input .entry))) (now (text .entry)) out (r .stage) (r .used) (r .out) (now (text .exit)) ⌝ }
 {
     match stage {
         Stage::Version => step_version(input, text, out),
@@ -142,9 +156,11 @@ pub fn step(
             name_starts,
             register_letters,
             register_starts,
+            label_letters,
+            label_starts,
             arms,
             input,
-            mode,
+            asked,
             text,
             out,
         ),

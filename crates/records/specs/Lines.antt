@@ -8,6 +8,7 @@ use lib.ListN.{length}
 use Rattle.text.specs.Words.{bytes}
 use Rattle.text.specs.Write.{write}
 use Rattle.records.specs.Records.{recordOutcome}
+use Rattle.records.specs.declared.Asked.{Asked}
 
 -- a body as document 01 lays it out: opcode (of one byte here), no flags, length, mem_size, imm, disp, then the count and the operands
 abbrev pub body : ℕ → ℕ → ℕ → List ℕ → List ℕ → List ℕ → List ℕ
@@ -68,7 +69,7 @@ lines =
 -- in this mode the body is printed as this text, into every buffer that has room for it
 abbrev pub Prints : ℕ → List ℕ → List ℕ → Type 0
 Prints mode body text =
-    (buf : List ℕ) → length text ≤ length buf → recordOutcome mode body buf ≡ record { answer = 0; length = length text; buffer = write buf 0 text }
+    (buf : List ℕ) → length text ≤ length buf → recordOutcome record { mode = mode } body buf ≡ record { answer = 0; length = length text; buffer = write buf 0 text }
 
 -- it holds of every entry
 abbrev pub All : {A : Type 0} → (A → Type 0) → List A → Type 0

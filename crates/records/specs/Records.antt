@@ -1,49 +1,55 @@
--- One record: its refusals in document 01's order, its text, and its outcome for all bodies, modes and buffers.
+-- One record: its refusals in the order in which they are asked, its text, and its outcome for all bodies, all that is asked, and
+-- all buffers.
 -- Assumes nothing.
-use mathlib.Core.Bool.{Bool}
+use mathlib.Core.Bool.{Bool, cond}
 use mathlib.Core.List.{List, [], _∷_}
 use Prim.Native.Nat.{ℕ}
 use lib.Dec.{ltb, eqb}
-use Rattle.operands.specs.declared.Instruction.{Instruction}
+use Rattle.answers.specs.Refusals.{Refusal, refusal, mode, length, field, shape, size, answerOf}
+use Rattle.answers.specs.Outcomes.{Outcome, outcomeOf, withRoom}
 use Rattle.bodies.specs.Refusals.{lengthRefused, fieldRefused}
 use Rattle.bodies.specs.Decoding.{instructionOf}
-use Rattle.names.specs.Opcodes.{armOf}
+use Rattle.branches.specs.declared.Mode.{Mode}
+use Rattle.branches.specs.declared.Mode.the-variants.{Crate, Straight}
 use Rattle.names.specs.declared.Arm.{Arm}
-use Rattle.arrange.specs.Shape.{shapeRefused}
-use Rattle.arrange.specs.Size.{sizeRefused}
-use Rattle.arrange.specs.Line.{lineOf}
-use Rattle.arrange.specs.declared.Line.{Line}
-use Rattle.lines.specs.Text.{lineText}
-use Rattle.records.specs.Answers.{lowest, roomRefused, Outcome, outcomeOf}
+use Rattle.names.specs.Opcodes.{armOf}
+use Rattle.arms.specs.Shape.{shapeRefused}
+use Rattle.arms.specs.Size.{sizeRefused}
+use Rattle.arms.specs.Plans.{planOf}
+use Rattle.lines.specs.declared.Line.{Line}
+use Rattle.lines.specs.Text.{lineBy, lineText}
+use Rattle.records.specs.declared.Asked.{Asked}
 
 -- "1 mode: mode is not 0 or 1"
-abbrev pub modeRefused : ℕ → Bool
-modeRefused mode = ltb 1 mode
+abbrev pub modeRefused : Asked → Bool
+modeRefused asked = ltb 1 (asked .mode)
 
--- "Mode 1, straight"
-abbrev pub straight : ℕ → Bool
-straight mode = eqb mode 1
+-- "Mode 1, straight"; mode 0 is the crate's
+abbrev pub modeOf : Asked → Mode
+modeOf asked = cond (eqb (asked .mode) 1) Straight Crate
 
 -- the arm of the record
 abbrev pub armAt : List ℕ → Arm
 armAt body = armOf (instructionOf body .opcode)
 
--- answers 1 to 5, each with its own rule: mode, length, field, shape, size
-unfoldable pub refusals : ℕ → List ℕ → List Bool → List Bool
-refusals mode body more =
-    modeRefused mode ∷ lengthRefused body ∷ fieldRefused body
-    ∷ shapeRefused (armAt body) (instructionOf body)
-    ∷ sizeRefused (armAt body) (instructionOf body)
-    ∷ more
+-- a record's refusals before there is a buffer, each with its own rule
+unfoldable pub refusals : Asked → List ℕ → List Refusal
+refusals asked body =
+    refusal mode (modeRefused asked)
+    ∷ refusal length (lengthRefused body)
+    ∷ refusal field (fieldRefused body)
+    ∷ refusal shape (shapeRefused (armAt body) (instructionOf body))
+    ∷ refusal size (sizeRefused (armAt body) (instructionOf body))
+    ∷ []
 
 -- what the record's line shows, and its text
-unfoldable pub lineAt : ℕ → List ℕ → Line
-lineAt mode body = lineOf (straight mode) (armAt body) (instructionOf body)
+unfoldable pub lineAt : Asked → List ℕ → Line
+lineAt asked body = lineBy (modeOf asked) (armAt body) (planOf (armAt body) (instructionOf body)) (instructionOf body)
 
-unfoldable pub recordText : ℕ → List ℕ → List ℕ
-recordText mode body = lineText (lineAt mode body)
+unfoldable pub recordText : Asked → List ℕ → List ℕ
+recordText asked body = lineText (lineAt asked body)
 
--- the outcome of the record entry point
-unfoldable pub recordOutcome : ℕ → List ℕ → List ℕ → Outcome
-recordOutcome mode body buf =
-    outcomeOf (lowest 1 (refusals mode body (roomRefused (recordText mode body) buf ∷ []))) (recordText mode body) buf
+-- the outcome of the record entry point: its refusals, and last the one for room
+unfoldable pub recordOutcome : Asked → (body buf : List ℕ) → Outcome
+recordOutcome asked body buf =
+    outcomeOf (answerOf (withRoom (refusals asked body) (recordText asked body) buf)) (recordText asked body) buf

@@ -1,37 +1,55 @@
-// What a record comes to before there is a buffer: the first refusal of 1 to 5, or the line that it shows.
+// What a record comes to before there is a buffer.
 ghost use mathlib.Core.Path.{_≡_};
 ghost use Rattle.names.specs.Opcodes.{ArmTable};
-ghost use Rattle.arrange.specs.Line.{arranged};
-ghost use Rattle.records.specs.Judged.{judgedAs, judged};
+ghost use Rattle.records.specs.Records.{modeOf};
+ghost use Rattle.records.specs.Judged.{judged};
+use crate::Asked;
 use crate::Judged;
-use arrange::Arranged;
-use bodies::Decoded;
+use answers::FIELD;
+use answers::LENGTH;
+use answers::MODE;
+use answers::SHAPE;
+use answers::SIZE;
+use arms::plans::plan_of;
+use arms::shapes::shape_refused;
+use arms::sizes::plan_lacks;
+use bodies::fields;
+use bodies::rules;
+use branches::Mode;
 use names::opcodes;
-use operands::Instruction;
 
-// A record that keeps the record rules, by its arm.
-fn judge_record(arms: &opcodes::Arms, straight: bool, i: Instruction) -> Judged
+// The refusals in the order of document 01's table. That of size is read off the plan.
+pub fn judge(arms: &opcodes::Arms, body: &[u8], asked: Asked) -> Judged
     requires { ⌜ ArmTable (now arms) ⌝ }
-    ensures { λ r. ⌜ r ≡ judgedAs (arranged straight i) ⌝ }
+    ensures { λ r. ⌜ r ≡ judged asked (now (body .entry)) ⌝ }
 {
-    match arrange::arrange(arms, straight, i) {
-        Arranged::Shape => Judged::Shape,
-        Arranged::Size => Judged::Size,
-        Arranged::Shown(line) => Judged::Shown(line),
+    if 1 < asked.mode {
+        return Judged::Refused(MODE);
     }
+    if rules::length_refused(body) {
+        return Judged::Refused(LENGTH);
+    }
+    if rules::field_refused(body) {
+        return Judged::Refused(FIELD);
+    }
+    let arm = opcodes::arm_of(arms, fields::opcode(body));
+    if shape_refused(arm, body) {
+        return Judged::Refused(SHAPE);
+    }
+    let plan = plan_of(arm, body);
+    if plan_lacks(body, plan) {
+        return Judged::Refused(SIZE);
+    }
+    Judged::Accepted { arm, plan }
 }
 
-pub fn judge(arms: &opcodes::Arms, body: &[u8], mode: u32) -> Judged
-    requires { ⌜ ArmTable (now arms) ⌝ }
-    ensures { λ r. ⌜ r ≡ judged mode (now (body .entry)) ⌝ }
+// The mode of a number that is not refused.
+pub fn mode_of(asked: Asked) -> Mode
+    ensures { λ r. ⌜ r ≡ modeOf asked ⌝ }
 {
-    if 1 < mode {
-        return Judged::Mode;
-    }
-    let straight = mode == 1;
-    match bodies::decode(body) {
-        Decoded::Length => Judged::Length,
-        Decoded::Field => Judged::Field,
-        Decoded::Record(i) => judge_record(arms, straight, i),
+    if asked.mode == 1 {
+        Mode::Straight
+    } else {
+        Mode::Crate
     }
 }

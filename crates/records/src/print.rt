@@ -1,86 +1,88 @@
 // The line of one record in a lent buffer.
 ghost use mathlib.Core.Path.{_≡_};
 ghost use Prim.Native.Nat.{_≤_};
-ghost use lib.ListN.{length};
+ghost use Rattle.text.specs.Write.{Room, Put};
 ghost use Rattle.names.specs.Opcodes.{MnemonicTable, ArmTable};
 ghost use Rattle.names.specs.Registers.{RegisterTable};
-ghost use Rattle.lines.specs.Text.{lineText};
-ghost use Rattle.records.specs.Answers.{textOutcome, Gives};
+ghost use Rattle.names.specs.Labels.{LabelTable};
+ghost use Rattle.answers.specs.Outcomes.{textOutcome, Gives};
+ghost use Rattle.bodies.specs.Body.{countOf};
+ghost use Rattle.bodies.specs.Refusals.{Whole};
+ghost use Rattle.bodies.specs.Decoding.{instructionOf};
+ghost use Rattle.lines.specs.Text.{lineBy, lineText};
 ghost use Rattle.records.specs.Records.{recordOutcome};
-use crate::Answer;
+use crate::Asked;
 use crate::Judged;
 use crate::judge;
-use arrange::Line;
+use answers::Answer;
+use answers::PRINTED;
+use branches::Mode;
+use lines::LONGEST_LINE;
+use lines::print::put_line;
+use names::Arm;
+use names::labels;
 use names::opcodes;
 use names::registers;
+use places::Plan;
 
-// A line that fits.
-fn print_fitting(
+// A line, where it fits. In a buffer for the longest line it is printed at once; else it is printed aside first, and answer 6's length
+// is what that took.
+fn print_line(
     name_letters: &opcodes::Letters,
     name_starts: &opcodes::Starts,
     register_letters: &registers::Letters,
     register_starts: &registers::Starts,
-    line: Line,
+    label_letters: &labels::Letters,
+    label_starts: &labels::Starts,
+    body: &[u8],
+    mode: Mode,
+    arm: Arm,
+    plan: Plan,
     text: &mut [u8],
 ) -> Answer
     requires { ⌜ MnemonicTable (now «name_letters») (now «name_starts») ⌝ }
     requires { ⌜ RegisterTable (now «register_letters») (now «register_starts») ⌝ }
-    requires { ⌜ length (lineText line) ≤ length (now text) ⌝ }
-    ensures { λ r. ⌜ Gives (textOutcome (lineText line) (now (text .entry))) r (now (text .exit)) ⌝ }
+    requires { ⌜ LabelTable (now «label_letters») (now «label_starts») ⌝ }
+    requires { ⌜ Whole (now body) ⌝ }
+    requires { ⌜ countOf (now body) ≤ 4 ⌝ }
+    ensures { λ r. ⌜ Gives (textOutcome (lineText (lineBy mode arm plan (instructionOf (now (body .entry))))) (now (text .entry))) r (now (text .exit)) ⌝ }
 {
-    let written = lines::line::put_line(
-        text,
+    if LONGEST_LINE <= text.len() {
+        let length = put_line(
+            text,
+            0,
+            name_letters,
+            name_starts,
+            register_letters,
+            register_starts,
+            label_letters,
+            label_starts,
+            body,
+            mode,
+            arm,
+            plan,
+        );
+        return Answer {
+            number: PRINTED,
+            length,
+        };
+    }
+    let mut aside = [0; LONGEST_LINE];
+    let needed = put_line(
+        &mut aside,
         0,
         name_letters,
         name_starts,
         register_letters,
         register_starts,
-        line,
+        label_letters,
+        label_starts,
+        body,
+        mode,
+        arm,
+        plan,
     );
-    Answer::Printed(written)
-}
-
-// A line, where it fits. No line exceeds 256 bytes, so in a larger buffer it need not be measured first.
-pub fn print_line(
-    name_letters: &opcodes::Letters,
-    name_starts: &opcodes::Starts,
-    register_letters: &registers::Letters,
-    register_starts: &registers::Starts,
-    line: Line,
-    text: &mut [u8],
-) -> Answer
-    requires { ⌜ MnemonicTable (now «name_letters») (now «name_starts») ⌝ }
-    requires { ⌜ RegisterTable (now «register_letters») (now «register_starts») ⌝ }
-    ensures { λ r. ⌜ Gives (textOutcome (lineText line) (now (text .entry))) r (now (text .exit)) ⌝ }
-{
-    if 256 <= text.len() {
-        return print_fitting(
-            name_letters,
-            name_starts,
-            register_letters,
-            register_starts,
-            line,
-            text,
-        );
-    }
-    let needed = lines::line::line_length(
-        name_letters,
-        name_starts,
-        register_letters,
-        register_starts,
-        line,
-    );
-    if text.len() < needed {
-        return Answer::Room(needed);
-    }
-    print_fitting(
-        name_letters,
-        name_starts,
-        register_letters,
-        register_starts,
-        line,
-        text,
-    )
+    answers::print_text(&aside[..needed], text)
 }
 
 pub fn print_record(
@@ -88,28 +90,32 @@ pub fn print_record(
     name_starts: &opcodes::Starts,
     register_letters: &registers::Letters,
     register_starts: &registers::Starts,
+    label_letters: &labels::Letters,
+    label_starts: &labels::Starts,
     arms: &opcodes::Arms,
     body: &[u8],
-    mode: u32,
+    asked: Asked,
     text: &mut [u8],
 ) -> Answer
     requires { ⌜ MnemonicTable (now «name_letters») (now «name_starts») ⌝ }
     requires { ⌜ RegisterTable (now «register_letters») (now «register_starts») ⌝ }
+    requires { ⌜ LabelTable (now «label_letters») (now «label_starts») ⌝ }
     requires { ⌜ ArmTable (now arms) ⌝ }
-    ensures { λ r. ⌜ Gives (recordOutcome mode (now (body .entry)) (now (text .entry))) r (now (text .exit)) ⌝ }
+    ensures { λ r. ⌜ Gives (recordOutcome asked (now (body .entry)) (now (text .entry))) r (now (text .exit)) ⌝ }
 {
-    match judge::judge(arms, body, mode) {
-        Judged::Mode => Answer::Mode,
-        Judged::Length => Answer::Length,
-        Judged::Field => Answer::Field,
-        Judged::Shape => Answer::Shape,
-        Judged::Size => Answer::Size,
-        Judged::Shown(line) => print_line(
+    match judge::judge(arms, body, asked) {
+        Judged::Refused(number) => Answer { number, length: 0 },
+        Judged::Accepted { arm, plan } => print_line(
             name_letters,
             name_starts,
             register_letters,
             register_starts,
-            line,
+            label_letters,
+            label_starts,
+            body,
+            judge::mode_of(asked),
+            arm,
+            plan,
             text,
         ),
     }

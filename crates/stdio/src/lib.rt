@@ -5,12 +5,17 @@ ghost use Prim.Native.Nat.{_+_, _≤_};
 ghost use lib.ListN.{length};
 ghost use Rattle.names.specs.Opcodes.{MnemonicTable, ArmTable};
 ghost use Rattle.names.specs.Registers.{RegisterTable};
+ghost use Rattle.names.specs.Labels.{LabelTable};
+ghost use Rattle.lines.specs.Text.{longestLine};
 use libc::STDERR_FILENO;
 use libc::STDIN_FILENO;
 use libc::STDOUT_FILENO;
+use lines::LONGEST_LINE;
 use listings::Stage;
+use names::labels;
 use names::opcodes;
 use names::registers;
+use records::Asked;
 
 // What came of the bytes that were there: the stage then, how many were used, and whether all lines could be written.
 pub struct Passed {
@@ -27,10 +32,10 @@ pub struct Kept {
 
 // Writes the lines out where there might be no room for the next one.
 fn keep_room(text: &[u8], out: usize) -> Kept
-    requires { ⌜ (257 ≤ length (now text)) × (out ≤ length (now text)) ⌝ }
-    ensures { λ r. ⌜ r .out + 257 ≤ length (now (text .entry)) ⌝ }
+    requires { ⌜ (longestLine + 1 ≤ length (now text)) × (out ≤ length (now text)) ⌝ }
+    ensures { λ r. ⌜ r .out + longestLine + 1 ≤ length (now (text .entry)) ⌝ }
 {
-    if 257 <= text.len() - out {
+    if LONGEST_LINE < text.len() - out {
         return Kept { out, written: true };
     }
     let written = io::write_all(STDOUT_FILENO, &text[..out]);
@@ -56,16 +61,19 @@ fn pass(
     name_starts: &opcodes::Starts,
     register_letters: &registers::Letters,
     register_starts: &registers::Starts,
+    label_letters: &labels::Letters,
+    label_starts: &labels::Starts,
     arms: &opcodes::Arms,
     stage: Stage,
     input: &[u8],
-    mode: u32,
+    asked: Asked,
     text: &mut [u8],
 ) -> Passed
     requires { ⌜ MnemonicTable (now «name_letters») (now «name_starts») ⌝ }
     requires { ⌜ RegisterTable (now «register_letters») (now «register_starts») ⌝ }
+    requires { ⌜ LabelTable (now «label_letters») (now «label_starts») ⌝ }
     requires { ⌜ ArmTable (now arms) ⌝ }
-    requires { ⌜ 257 ≤ length (now text) ⌝ }
+    requires { ⌜ longestLine + 1 ≤ length (now text) ⌝ }
     ensures { λ r. ⌜ r .used ≤ length (now (input .entry)) ⌝ }
 {
     let mut stage = stage;
@@ -77,10 +85,12 @@ fn pass(
             name_starts,
             register_letters,
             register_starts,
+            label_letters,
+            label_starts,
             arms,
             stage,
             &input[at..],
-            mode,
+            asked,
             text,
             out,
         );
@@ -159,18 +169,21 @@ fn round_of(
     name_starts: &opcodes::Starts,
     register_letters: &registers::Letters,
     register_starts: &registers::Starts,
+    label_letters: &labels::Letters,
+    label_starts: &labels::Starts,
     arms: &opcodes::Arms,
     stage: Stage,
     held: usize,
     input: &mut [u8],
-    mode: u32,
+    asked: Asked,
     text: &mut [u8],
 ) -> Round
     requires { ⌜ MnemonicTable (now «name_letters») (now «name_starts») ⌝ }
     requires { ⌜ RegisterTable (now «register_letters») (now «register_starts») ⌝ }
+    requires { ⌜ LabelTable (now «label_letters») (now «label_starts») ⌝ }
     requires { ⌜ ArmTable (now arms) ⌝ }
     requires { ⌜ held ≤ length (now input) ⌝ }
-    requires { ⌜ 257 ≤ length (now text) ⌝ }
+    requires { ⌜ longestLine + 1 ≤ length (now text) ⌝ }
     ensures { λ r. ⌜ r .held ≤ length (now (input .entry)) ⌝ }
 {
     let got = read_more(input, held);
@@ -194,10 +207,12 @@ fn round_of(
         name_starts,
         register_letters,
         register_starts,
+        label_letters,
+        label_starts,
         arms,
         stage,
         &input[..have],
-        mode,
+        asked,
         text,
     );
     let stage = all.stage;
@@ -242,10 +257,13 @@ fn finish(last: Round) {
 // The lines of the listing on standard input. A proved loop has to end, and nothing says that the input does: so the loop counts
 // its turns down, from a number that no run uses up.
 pub fn run(mode: u32) {
+    let asked = Asked { mode };
     let name_letters = names::opcodes::letters();
     let name_starts = names::opcodes::starts();
     let register_letters = names::registers::letters();
     let register_starts = names::registers::starts();
+    let label_letters = names::labels::letters();
+    let label_starts = names::labels::starts();
     let arms = names::opcodes::ARMS;
     let mut input = io::large_buffer();
     let mut text = io::large_buffer();
@@ -259,11 +277,13 @@ pub fn run(mode: u32) {
             &name_starts,
             &register_letters,
             &register_starts,
+            &label_letters,
+            &label_starts,
             &arms,
             stage,
             held,
             &mut input,
-            mode,
+            asked,
             &mut text,
         );
         let end = last.end;
