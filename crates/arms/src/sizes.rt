@@ -1,5 +1,7 @@
 // Answer 5: which records are refused for want of a label, read off the plan.
 ghost use mathlib.Core.Path.{_≡_};
+ghost use Prim.Native.Nat.{_≤_};
+ghost use Rattle.bodies.specs.Body.{countOf};
 ghost use Rattle.bodies.specs.Refusals.{Whole};
 ghost use Rattle.bodies.specs.Decoding.{instructionOf};
 ghost use Rattle.arms.specs.Missing.{placeLacks, planLacks};
@@ -9,9 +11,10 @@ use places::Place;
 use places::Plan;
 use places::labels::MISSING;
 
-// A label is called for and there is none. The operand is looked at only where its label is missing.
+// A label is called for and there is none. The operand is looked at only where its label is missing. A line has the operands 0 to 3.
 fn place_lacks(body: &[u8], place: Place) -> bool
     requires { ⌜ Whole (now body) ⌝ }
+    requires { ⌜ countOf (now body) ≤ 4 ⌝ }
     ensures { λ r. ⌜ r ≡ placeLacks (instructionOf (now (body .entry))) place ⌝ }
 {
     match place {
@@ -25,7 +28,7 @@ fn place_lacks(body: &[u8], place: Place) -> bool
             short: _,
         } => {
             if label == MISSING {
-                is_memory(operand_at(body, k))
+                (k < 4) & is_memory(operand_at(body, k))
             } else {
                 false
             }
@@ -35,6 +38,7 @@ fn place_lacks(body: &[u8], place: Place) -> bool
 
 pub fn plan_lacks(body: &[u8], plan: Plan) -> bool
     requires { ⌜ Whole (now body) ⌝ }
+    requires { ⌜ countOf (now body) ≤ 4 ⌝ }
     ensures { λ r. ⌜ r ≡ planLacks (instructionOf (now (body .entry))) plan ⌝ }
 {
     let a = plan.a;

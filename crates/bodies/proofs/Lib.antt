@@ -5,3 +5,4 @@ pub mod Signed
 pub mod Operands
 pub mod Accepted
 pub mod Examples
+pub mod Counted
