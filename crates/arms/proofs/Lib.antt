@@ -5,4 +5,6 @@ pub mod Groups
 pub mod ByArm
 pub mod Operands
 pub mod Labelled
+pub mod Lacking
 pub mod Order
+pub mod Ordered
