@@ -70,10 +70,9 @@ module _ (mode : Mode) (i : Instruction) where
   pub plan-labels-there : (plan : Plan) → planLacks i plan ≡ false → lacksLabel (itemsAt mode i plan) ≡ false
   unfolding planLacks itemsAt
   plan-labels-there plan e =
-      let there : (p : Place) → placeLacks i p ≡ false → isMissing (itemAt mode i p .label) ≡ false = labels-there in
       rw (
-        there (plan .a) (search (neither-left, neither-right, e)),
-        there (plan .b) (search (neither-left, neither-right, e)),
-        there (plan .c) (search (neither-left, neither-right, e)),
-        there (plan .d) (search (neither-left, neither-right, e)),
+        labels-there (plan .a) (search (neither-left, neither-right, e)),
+        labels-there (plan .b) (search (neither-left, neither-right, e)),
+        labels-there (plan .c) (search (neither-left, neither-right, e)),
+        labels-there (plan .d) (search (neither-left, neither-right, e)),
       )

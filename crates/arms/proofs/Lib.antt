@@ -5,6 +5,7 @@ pub mod Groups
 pub mod ByArm
 pub mod Operands
 pub mod Labelled
+pub mod MissingSizes
 pub mod Lacking
 pub mod Order
 pub mod Ordered

@@ -4,7 +4,6 @@ use mathlib.Core.Path.{_≡_, refl}
 use mathlib.Core.Bool.{Bool, true, false, cond, _&&_, and-self-left}
 use Prim.Native.Nat.{ℕ}
 use lib.Dec.{eqb}
-use Rattle.arms.specs.declared.LabelRule.{LabelRule}
 use Rattle.arms.specs.Labels.{generalLabel}
 use Rattle.arms.specs.Plans.{never, always}
 

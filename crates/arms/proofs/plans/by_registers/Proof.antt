@@ -18,7 +18,7 @@ general-requires c κs = search needs
 
 returns : tie.Need-returns
 unfolding instructionOf general
-returns c = rw ((c .general) .ensures, (c .before .wants-mmword) .ensures, (c .before .before .size) .ensures, label-at-8, label-at-8)
+returns c = rw ((c .general) .ensures, (c .before .wants-mmword) .ensures, (c .before .before .size) .ensures, label-at-8 _ (c .before .before .before .before .args .first) _, label-at-8 _ (c .before .before .before .before .args .later) _)
 
 pub by-registers-spec : {M : Type 1} → statement M
 by-registers-spec =

@@ -1,6 +1,5 @@
 -- `arms::plans::lsl` meets its contract: at each return, what was called ensures and what was tested give the definition's case.
 -- Assumes nothing.
-use Rattle.arms.proofs.Said.{said}
 use Rattle.arms.specs.Plans.{planOf}
 use Rattle.bodies.specs.Decoding.{instructionOf}
 use borrow.Author.Needs.{needs}
