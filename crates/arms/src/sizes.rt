@@ -11,7 +11,7 @@ use places::Place;
 use places::Plan;
 use places::labels::MISSING;
 
-// A label is called for and there is none. The operand is looked at only where its label is missing. A line has the operands 0 to 3.
+// A label is called for and there is none. The operand is looked at only where its label is missing.
 fn place_lacks(body: &[u8], place: Place) -> bool
     requires { ⌜ Whole (now body) ⌝ }
     requires { ⌜ countOf (now body) ≤ 4 ⌝ }
@@ -28,7 +28,7 @@ fn place_lacks(body: &[u8], place: Place) -> bool
             short: _,
         } => {
             if label == MISSING {
-                (k < 4) & is_memory(operand_at(body, k))
+                is_memory(operand_at(body, k))
             } else {
                 false
             }
