@@ -40,7 +40,7 @@ abbrev pub hasLabel : ℕ → Bool
 hasLabel size = eqb size 1 || eqb size 2 || eqb size 4 || eqb size 8 || eqb size 16 || eqb size 32 || eqb size 64
 
 -- The general path calls for a label before every memory operand, but for none at the sizes 63 and 48. `first` says whether 6
--- has one before operand 0, `later` whether it has one before the operands behind.
+-- has one before operand 0, `later` whether it has one before those after it.
 abbrev pub generalRefused : (first later : Bool) → Instruction → Bool
 generalRefused first later i =
     not (eqb (i .size) 63 || eqb (i .size) 48)
@@ -57,7 +57,7 @@ generalPath arm i =
     || isArm arm Nop && isAbsent (i .b)
     || isArm arm Aam && not (eqb (i .imm) 10)
 
--- Where a label is called for and there is none: the general path, with `fword` in operand 0 of JMPF and CALLF and behind
+-- Where a label is called for and there is none: the general path, with `fword` in operand 0 of JMPF and CALLF and after
 -- operand 0 of LDS, LES, LFS, LGS; SCAS, STOS and LODS; operand 1 of the PBLENDVB, FCOM and FADD arms where it is memory; the
 -- same of the FBLD arm, and operand 0 of the FBSTP arm, where 10 has a label too; and LSS.
 unfoldable pub sizeRefused : Arm → Instruction → Bool

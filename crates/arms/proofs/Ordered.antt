@@ -1,0 +1,199 @@
+-- A record whose operands are counted from the left shows its operands from the left, unless its shape is refused.
+-- Assumes nothing.
+use mathlib.Core.Path.{_≡_, refl, sym, _∙_}
+use mathlib.Core.Bool.{Bool, true, false, cond, not, _&&_, or-true}
+use Prim.Native.Nat.{ℕ}
+use lib.Dec.{eqb}
+use Rattle.operands.specs.Kinds.{isAbsent, isRegister, isRegisterR, isMemory}
+use Rattle.operands.specs.Parts.{operandIn, shownOf, isSt0}
+use Rattle.operands.specs.RegisterBytes.{eax, xmm0}
+use Rattle.operands.specs.declared.Instruction.{Instruction}
+use Rattle.operands.specs.declared.Operand.{Operand}
+use Rattle.operands.specs.declared.Operand.the-variants.{Absent, Register, Imm, Absolute16, Absolute32, Memory}
+use Rattle.operands.specs.declared.Label.{Label}
+use Rattle.operands.specs.declared.Label.the-variants.{Fword}
+use Rattle.operands.specs.declared.Shown.the-variants.{St}
+use Rattle.branches.specs.declared.Mode.{Mode}
+use Rattle.places.specs.declared.Segment.{Segment}
+use Rattle.places.specs.declared.Segment.the-variants.{Hidden, Shown as Own, UnlessDs}
+use Rattle.places.specs.declared.Place.{Place}
+use Rattle.places.specs.declared.Place.the-variants as place
+use Rattle.places.specs.declared.Plan.{Plan}
+use Rattle.places.specs.Labels.{labelNumber}
+use Rattle.places.specs.Places.{operandShown, itemAt, itemsAt}
+use Rattle.bodies.proofs.Picks.{neither-left, neither-right}
+use Rattle.names.specs.declared.Arm.{Arm}
+use Rattle.names.specs.declared.Arm.the-variants.{
+  General,
+  Qword,
+  Mmword,
+  Jmpf,
+  Callf,
+  Lds,
+  Movs,
+  Cmps,
+  Branch,
+  Xbegin,
+  Feni,
+  Fdisi,
+  Fsetpm,
+  Hreset,
+  Lsl,
+  Prefetch,
+  Sgdt,
+  Lss,
+  Nop,
+  Monitor,
+  Mwait,
+  Invlpgb,
+  Rdpru,
+  Scas,
+  Lods,
+  Psmash,
+  Pvalidate,
+  Incssp,
+  Wrss,
+  Pblendvb,
+  Lea,
+  Pushf,
+  Aam,
+  Fcom,
+  Fadd,
+  Fbld,
+  Fbstp,
+}
+use Rattle.arms.specs.declared.LabelRule.{LabelRule}
+use Rattle.arms.specs.Tests.{isBranch, isXbegin, lslSource}
+use Rattle.arms.specs.Labels.{sizeLabel, lssLabel, tbyteLabel}
+use Rattle.arms.specs.Plans.{plain, labelled, st, named, none, one, two, three, spread, general, never, always, byRegisters, generally, movsLabel, fadd, planOf}
+use Rattle.arms.specs.Shape.{shapeRefused}
+use Rattle.arms.proofs.Order.{counted, isNothing, fromTheLeft}
+use Rattle.arms.proofs.ByArm.{first-there, both-there, at-lsl, at-lss, at-invlpgb, at-fadd}
+
+nothing-is-absent : (o : Operand) → isNothing (shownOf o) ≡ isAbsent o
+nothing-is-absent Absent = refl
+nothing-is-absent (Register place reg) = refl
+nothing-is-absent (Imm kind value) = refl
+nothing-is-absent (Absolute16 segment address) = refl
+nothing-is-absent (Absolute32 segment address) = refl
+nothing-is-absent (Memory segment address) = refl
+
+there : (o : Operand) → isAbsent o ≡ false → isNothing (shownOf o) ≡ false
+there o e = nothing-is-absent o ∙ e
+
+there-short : (short : Bool) (o : Operand) → isAbsent o ≡ false → isNothing (cond short St (shownOf o)) ≡ false
+there-short true o e = refl
+there-short false o e = there o e
+
+register-there : (o : Operand) → not (isRegister o) ≡ false → isAbsent o ≡ false
+register-there Absent e = e
+register-there (Register place reg) e = refl
+register-there (Imm kind value) e = refl
+register-there (Absolute16 segment address) e = refl
+register-there (Absolute32 segment address) e = refl
+register-there (Memory segment address) e = refl
+
+module _ (mode : Mode) (i : Instruction) where
+  -- what a plan shows stands from the left
+  abbrev Ordered : Plan → Type 0
+  Ordered plan = fromTheLeft (itemsAt mode i plan) ≡ true
+
+  -- a place shows something
+  abbrev Shows : Place → Type 0
+  Shows p = isNothing (itemAt mode i p .shown) ≡ false
+
+  operand-shows : (k label : ℕ) (segment : Segment) (short : Bool) → isAbsent (operandIn i k) ≡ false → Shows (place.Operand k label segment short)
+  unfolding itemAt operandShown
+  operand-shows k label segment short e = there-short (short && isSt0 (operandIn i k)) (operandIn i k) e
+
+  ordered-one : (x : Place) → Ordered (one x)
+  unfolding itemsAt itemAt
+  ordered-one x = rw (or-true (not (isNothing (itemAt mode i x .shown))))
+
+  ordered-two : (x y : Place) → Shows x → Ordered (two x y)
+  unfolding itemsAt itemAt
+  ordered-two x y e = simp (e, or-true)
+
+  ordered-three : (x y z : Place) → Shows x → Shows y → Ordered (three x y z)
+  unfolding itemsAt itemAt
+  ordered-three x y z e k = simp (e, k, or-true)
+
+  ordered-either : (p : Bool) (x y : Plan) → Ordered x → Ordered y → Ordered (cond p x y)
+  ordered-either true x y e k = e
+  ordered-either false x y e k = k
+
+  ordered-fadd : isAbsent (i .a) ≡ false → Ordered (fadd (i .size) (i .a) (i .b))
+  ordered-fadd e =
+      ordered-either (isMemory (i .b)) (one (labelled (sizeLabel (i .size)) Own 1)) (cond (isRegisterR (i .a)) (two (st 0) (plain 1)) (two (plain 0) (st 1)))
+      (ordered-one (labelled (sizeLabel (i .size)) Own 1))
+      (ordered-either (isRegisterR (i .a)) (two (st 0) (plain 1)) (two (plain 0) (st 1))
+      (ordered-two (st 0) (plain 1) (operand-shows 0 0 Hidden true e))
+      (ordered-two (plain 0) (st 1) (operand-shows 0 0 Hidden false e)))
+
+  -- every operand stands where the record has it
+  module _ (e : counted i ≡ true) where
+    ordered-spread : (first later : Label) (segment : Segment) → Ordered (spread first later segment)
+    unfolding spread itemsAt itemAt operandShown
+    ordered-spread first later segment = simp nothing-is-absent e
+
+    ordered-general : (rule : LabelRule) → Ordered (general rule (i .size))
+    unfolding general
+    ordered-general rule = ordered-spread _ _ Own
+
+    ordered-generally : Ordered (generally i)
+    ordered-generally = ordered-general (byRegisters i false false)
+
+    -- an arm that leaves some records to the general path
+    ordered-else : (p : Bool) (x : Plan) → Ordered x → Ordered (cond p x (generally i))
+    ordered-else p x k = ordered-either p x (generally i) k ordered-generally
+
+pub from-the-left :
+    (mode : Mode) (arm : Arm) (i : Instruction) →
+    counted i ≡ true →
+    shapeRefused arm i ≡ false →
+    fromTheLeft (itemsAt mode i (planOf arm i)) ≡ true
+unfolding planOf itemsAt itemAt
+from-the-left mode General i e s = ordered-generally mode i e
+from-the-left mode Qword i e s = ordered-general mode i e never
+from-the-left mode Mmword i e s = ordered-general mode i e always
+from-the-left mode Jmpf i e s = ordered-general mode i e (byRegisters i true false)
+from-the-left mode Callf i e s = ordered-general mode i e (byRegisters i true false)
+from-the-left mode Lds i e s = ordered-general mode i e (byRegisters i false true)
+from-the-left mode Movs i e s = ordered-spread mode i e (movsLabel i) (movsLabel i) UnlessDs
+from-the-left mode Cmps i e s = ordered-generally mode i e
+from-the-left mode Branch i e s = ordered-else mode i e (isBranch (i .a)) (one place.Branch) (ordered-one mode i place.Branch)
+from-the-left mode Xbegin i e s = ordered-else mode i e (isXbegin (i .a)) (one place.Branch) (ordered-one mode i place.Branch)
+from-the-left mode Feni i e s = refl
+from-the-left mode Fdisi i e s = refl
+from-the-left mode Fsetpm i e s = refl
+from-the-left mode Hreset i e s = ordered-two mode i (plain 0) (named eax) (operand-shows mode i 0 0 Hidden false (sym (first-there i .0) ∙ s))
+from-the-left mode Lsl i e s =
+    let source = named (lslSource (i .a) (i .b)) in
+    let a-there = register-there (i .a) (neither-left _ _ (sym (at-lsl i) ∙ s)) in
+    ordered-else mode i e (isRegister (i .a) && isRegister (i .b)) (two (plain 0) source) (ordered-two mode i (plain 0) source (operand-shows mode i 0 0 Hidden false a-there))
+from-the-left mode Prefetch i e s = ordered-one mode i (plain 0)
+from-the-left mode Sgdt i e s = ordered-one mode i (labelled Fword Hidden 0)
+from-the-left mode Lss i e s =
+    ordered-two mode i (plain 0) (labelled (lssLabel (i .size)) Hidden 1) (operand-shows mode i 0 0 Hidden false (neither-left (isAbsent (i .a)) _ (sym (at-lss i) ∙ s)))
+from-the-left mode Nop i e s = ordered-either mode i (isAbsent (i .b)) (generally i) none (ordered-generally mode i e) refl
+from-the-left mode Monitor i e s = refl
+from-the-left mode Mwait i e s = refl
+from-the-left mode Invlpgb i e s = ordered-two mode i (plain 0) (plain 2) (operand-shows mode i 0 0 Hidden false (neither-left (isAbsent (i .a)) _ (sym (at-invlpgb i) ∙ s)))
+from-the-left mode Rdpru i e s = refl
+from-the-left mode Scas i e s = ordered-one mode i (labelled (sizeLabel (i .size)) Own 0)
+from-the-left mode Lods i e s = ordered-one mode i (labelled (sizeLabel (i .size)) Hidden 1)
+from-the-left mode Psmash i e s = refl
+from-the-left mode Pvalidate i e s = refl
+from-the-left mode Incssp i e s = ordered-generally mode i e
+from-the-left mode Wrss i e s = ordered-generally mode i e
+from-the-left mode Pblendvb i e s =
+    let there = sym (both-there i .0) ∙ s in
+    ordered-three mode i (plain 0) (labelled (sizeLabel (i .size)) Own 1) (named xmm0) (operand-shows mode i 0 0 Hidden false (neither-left (isAbsent (i .a)) (isAbsent (i .b)) there))
+    (operand-shows mode i 1 _ Own false (neither-right (isAbsent (i .a)) (isAbsent (i .b)) there))
+from-the-left mode Lea i e s = ordered-two mode i (plain 0) (plain 1) (operand-shows mode i 0 0 Hidden false (neither-left (isAbsent (i .a)) _ (sym (both-there i .1 .0) ∙ s)))
+from-the-left mode Pushf i e s = refl
+from-the-left mode Aam i e s = ordered-else mode i e (eqb (i .imm) 10) none refl
+from-the-left mode Fcom i e s = ordered-one mode i (labelled (sizeLabel (i .size)) Own 1)
+from-the-left mode Fadd i e s = ordered-fadd mode i (neither-left _ _ (neither-left _ _ (sym (at-fadd i) ∙ s)))
+from-the-left mode Fbld i e s = ordered-one mode i (place.Operand 1 (labelNumber (tbyteLabel (i .size))) Own true)
+from-the-left mode Fbstp i e s = ordered-one mode i (labelled (tbyteLabel (i .size)) Own 0)

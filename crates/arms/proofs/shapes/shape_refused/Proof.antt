@@ -1,0 +1,219 @@
+-- `arms::shapes::shape_refused` meets its contract: at each return the arm is known, and the law of that arm says what the whole
+-- sentence of document 01 comes to there. At the last it is one of the arms that refuse nothing.
+-- Assumes nothing.
+use mathlib.Core.Bool.{false, not, _||_}
+use mathlib.Core.List.{List, [], _∷_}
+use mathlib.Core.Path.{sym}
+use denote.Ref.{now}
+use Rattle.operands.specs.Kinds.{isAbsent, isMemory}
+use Rattle.names.specs.declared.Arm.{Arm}
+use Rattle.names.specs.declared.Arm.the-variants.{Hreset, Lsl, Prefetch, Sgdt, Lss, Invlpgb, Scas, Lods, Incssp, Wrss, Pblendvb, Lea, Fcom, Fadd, Fbld, Fbstp}
+use Rattle.bodies.specs.Decoding.{instructionOf}
+use Rattle.arms.specs.Shape.{shapeRefused}
+use Rattle.arms.proofs.Groups.{at-group, of-group, others}
+use Rattle.arms.proofs.ByArm.{first-there, first-memory, both-there, at-lsl, at-lss, at-invlpgb, at-lods, at-incssp, at-wrss, at-fcom, at-fadd, at-fbld}
+use borrow.Author.Needs.{needs}
+use Rattle.arms.proofs.shapes.shape_refused.Statement.{statement}
+use Rattle.arms.proofs.shapes.shape_refused.Tie as tie
+
+-- the arms that refuse a shape
+abbrev refusing : List Arm
+refusing =
+    Hreset ∷ Lsl ∷ Prefetch ∷ Sgdt ∷ Lss ∷ Invlpgb ∷ Scas ∷ Lods ∷ Incssp ∷ Wrss ∷ Pblendvb ∷ Lea ∷ Fcom ∷ Fadd ∷ Fbld ∷ Fbstp ∷ []
+
+is-past-requires : tie.Need-is-past-requires
+is-past-requires c κs = search needs
+
+enum-told : tie.Need-enum-told
+enum-told c = search needs
+
+lsl-refused-requires : tie.Need-lsl-refused-requires
+lsl-refused-requires c κs = search needs
+
+operand-at-requires : tie.Need-operand-at-requires
+operand-at-requires c κs = search needs
+
+is-memory-requires : tie.Need-is-memory-requires
+is-memory-requires c κs = search needs
+
+enum-told-2 : tie.Need-enum-told-2
+enum-told-2 c = search needs
+
+is-past-requires-2 : tie.Need-is-past-requires-2
+is-past-requires-2 c κs = search needs
+
+operand-at-requires-2 : tie.Need-operand-at-requires-2
+operand-at-requires-2 c κs = search needs
+
+is-memory-requires-2 : tie.Need-is-memory-requires-2
+is-memory-requires-2 c κs = search needs
+
+enum-told-3 : tie.Need-enum-told-3
+enum-told-3 c = search needs
+
+is-past-requires-3 : tie.Need-is-past-requires-3
+is-past-requires-3 c κs = search needs
+
+is-past-requires-4 : tie.Need-is-past-requires-4
+is-past-requires-4 c κs = search needs
+
+enum-told-4 : tie.Need-enum-told-4
+enum-told-4 c = search needs
+
+operand-at-requires-3 : tie.Need-operand-at-requires-3
+operand-at-requires-3 c κs = search needs
+
+is-memory-requires-3 : tie.Need-is-memory-requires-3
+is-memory-requires-3 c κs = search needs
+
+enum-told-5 : tie.Need-enum-told-5
+enum-told-5 c = search needs
+
+operand-at-requires-4 : tie.Need-operand-at-requires-4
+operand-at-requires-4 c κs = search needs
+
+is-bank-0-requires : tie.Need-is-bank-0-requires
+is-bank-0-requires c κs = search needs
+
+enum-told-6 : tie.Need-enum-told-6
+enum-told-6 c = search needs
+
+operand-at-requires-5 : tie.Need-operand-at-requires-5
+operand-at-requires-5 c κs = search needs
+
+is-bank-0-requires-2 : tie.Need-is-bank-0-requires-2
+is-bank-0-requires-2 c κs = search needs
+
+is-past-requires-5 : tie.Need-is-past-requires-5
+is-past-requires-5 c κs = search needs
+
+is-past-requires-6 : tie.Need-is-past-requires-6
+is-past-requires-6 c κs = search needs
+
+enum-told-7 : tie.Need-enum-told-7
+enum-told-7 c = search needs
+
+is-past-requires-7 : tie.Need-is-past-requires-7
+is-past-requires-7 c κs = search needs
+
+enum-told-8 : tie.Need-enum-told-8
+enum-told-8 c = search needs
+
+is-past-requires-8 : tie.Need-is-past-requires-8
+is-past-requires-8 c κs = search needs
+
+is-past-requires-9 : tie.Need-is-past-requires-9
+is-past-requires-9 c κs = search needs
+
+fadd-refused-requires : tie.Need-fadd-refused-requires
+fadd-refused-requires c κs = search needs
+
+enum-told-9 : tie.Need-enum-told-9
+enum-told-9 c = search needs
+
+fbld-refused-requires : tie.Need-fbld-refused-requires
+fbld-refused-requires c κs = search needs
+
+returns : tie.Need-returns
+unfolding instructionOf
+returns c = let i = instructionOf (now ((c .before .before .before .args) .body)) in
+    rw ((c .is-past) .ensures, at-group (λ (x : Arm). shapeRefused x i) (isAbsent (i .a)) (Hreset ∷ Prefetch ∷ Fbstp ∷ []) ((c .before .before .before .args) .arm) (first-there i) ((c .before .match) .keys1))
+
+returns-2 : tie.Need-returns-2
+unfolding instructionOf
+returns-2 c = rw ((c .lsl-refused) .ensures, (c .before .enum-told) .given .1, at-lsl)
+
+returns-3 : tie.Need-returns-3
+unfolding instructionOf
+returns-3 c = let i = instructionOf (now ((c .before .before .before .before .args) .body)) in
+    rw ((c .is-memory) .ensures, (c .before .operand-at) .ensures, at-group (λ (x : Arm). shapeRefused x i) (not (isMemory (i .a))) (Sgdt ∷ Scas ∷ []) ((c .before .before .before .before .args) .arm) (first-memory i) ((c .before .before .match) .keys3))
+
+returns-4 : tie.Need-returns-4
+unfolding instructionOf
+returns-4 c = rw ((c .before .before .is-past2) .ensures, (c .is-memory2) .ensures, (c .before .operand-at2) .ensures, (c .before .before .before .enum-told2) .given .1, at-lss)
+
+returns-5 : tie.Need-returns-5
+unfolding instructionOf
+returns-5 c = rw ((c .before .is-past3) .ensures, (c .is-past4) .ensures, (c .before .before .enum-told3) .given .1, at-invlpgb)
+
+returns-6 : tie.Need-returns-6
+unfolding instructionOf
+returns-6 c = rw ((c .is-memory3) .ensures, (c .before .operand-at3) .ensures, (c .before .before .enum-told4) .given .1, at-lods)
+
+returns-7 : tie.Need-returns-7
+unfolding instructionOf
+returns-7 c = rw ((c .is-bank-0) .ensures, (c .before .operand-at4) .ensures, (c .before .before .enum-told5) .given .1, at-incssp)
+
+returns-8 : tie.Need-returns-8
+unfolding instructionOf
+returns-8 c = rw ((c .is-bank-02) .ensures, (c .before .operand-at5) .ensures, (c .before .before .enum-told6) .given .1, at-wrss)
+
+returns-9 : tie.Need-returns-9
+unfolding instructionOf
+returns-9 c = let i = instructionOf (now ((c .before .before .before .before .args) .body)) in
+    rw ((c .before .is-past5) .ensures, (c .is-past6) .ensures, at-group (λ (x : Arm). shapeRefused x i) (isAbsent (i .a) || isAbsent (i .b)) (Pblendvb ∷ Lea ∷ []) ((c .before .before .before .before .args) .arm) (both-there i) ((c .before .before .match) .keys9))
+
+returns-10 : tie.Need-returns-10
+unfolding instructionOf
+returns-10 c = rw ((c .is-past7) .ensures, (c .before .enum-told7) .given .1, at-fcom)
+
+returns-11 : tie.Need-returns-11
+unfolding instructionOf
+returns-11 c = rw ((c .before .before .is-past8) .ensures, (c .before .is-past9) .ensures, (c .fadd-refused) .ensures, (c .before .before .before .enum-told8) .given .1, at-fadd)
+
+returns-12 : tie.Need-returns-12
+unfolding instructionOf
+returns-12 c = rw ((c .fbld-refused) .ensures, (c .before .enum-told9) .given .1, at-fbld)
+
+returns-13 : tie.Need-returns-13
+unfolding shapeRefused
+returns-13 c = sym (of-group (λ (x : Arm). shapeRefused x (instructionOf (now ((c .before .before .args) .body)))) false (others refusing) ((c .before .before .args) .arm) tt ((c .match) .keys13))
+
+pub shape-refused-spec : {M : Type 1} → statement M
+shape-refused-spec =
+    tie.close
+    (tie.spec
+    is-past-requires
+    enum-told
+    lsl-refused-requires
+    operand-at-requires
+    is-memory-requires
+    enum-told-2
+    is-past-requires-2
+    operand-at-requires-2
+    is-memory-requires-2
+    enum-told-3
+    is-past-requires-3
+    is-past-requires-4
+    enum-told-4
+    operand-at-requires-3
+    is-memory-requires-3
+    enum-told-5
+    operand-at-requires-4
+    is-bank-0-requires
+    enum-told-6
+    operand-at-requires-5
+    is-bank-0-requires-2
+    is-past-requires-5
+    is-past-requires-6
+    enum-told-7
+    is-past-requires-7
+    enum-told-8
+    is-past-requires-8
+    is-past-requires-9
+    fadd-refused-requires
+    enum-told-9
+    fbld-refused-requires
+    returns
+    returns-2
+    returns-3
+    returns-4
+    returns-5
+    returns-6
+    returns-7
+    returns-8
+    returns-9
+    returns-10
+    returns-11
+    returns-12
+    returns-13)
