@@ -8,11 +8,11 @@ use mathlib.Core.List.{List, [], _∷_, _++_, map}
 use Prim.Native.Nat.{ℕ, zero, suc}
 use lib.Dec.{T, T-not, eqb}
 use borrow.Author.Tests.{eq-eqb}
-use Rattle.text.specs.Words.{every}
-use Rattle.text.proofs.Tables.{both-left, both-right}
 use store.Enc.{and-l, and-r}
 use types.Run.{OneOf}
 use denote.Enum.Declared.{tagOf}
+use Rattle.text.specs.Words.{every}
+use Rattle.text.proofs.Tables.{both-left, both-right}
 use Rattle.names.proofs.Arm.{the-type}
 use Rattle.names.proofs.ArmNumbers.{armAt}
 use Rattle.names.specs.declared.Arm.{Arm}

@@ -1,8 +1,8 @@
 -- The parts of an operand's text: their cases and their lengths.
 -- Assumes nothing.
-use mathlib.Core.Path.{_≡_, refl, sym, ap, _∙_}
+use mathlib.Core.Path.{_≡_, refl, sym, _∙_}
 use mathlib.Core.Bool.{Bool, true, false, cond}
-use mathlib.Core.List.{List, [], _++_}
+use mathlib.Core.List.{[], _++_}
 use Prim.Native.Nat.{ℕ, _+_, _<_, _≤_}
 use native.Mathlib.Nat.{add-assoc}
 use native.Mathlib.Omega.{arith}
@@ -13,13 +13,12 @@ use Rattle.text.specs.Choice.{when}
 use Rattle.text.specs.Words.{bytes}
 use Rattle.text.proofs.Choosing.{length-when}
 use Rattle.numerals.specs.Digits.{digits}
-use Rattle.numerals.proofs.Places.{length-digits}
 use Rattle.numerals.specs.Numerals.{numeral, displacement, absolute}
-use Rattle.names.specs.Registers.{registerName, segmentName}
+use Rattle.names.specs.Registers.{segmentName}
 use Rattle.operands.specs.declared.Address.{Address}
 use Rattle.operands.specs.declared.Item.{Item}
 use Rattle.lines.specs.Fronts.{labelText, segmentText}
-use Rattle.lines.specs.Brackets.{baseText, scaleText, indexedText, indexText, tailText, bracketText}
+use Rattle.lines.specs.Brackets.{baseText, scaleText, indexText, tailText, bracketText}
 use Rattle.lines.specs.Items.{absoluteText, signText, branchText, shownText, itemText}
 
 pub scale-shown : {s : ℕ} → 1 < s → scaleText s ≡ bytes " * " ++ digits 1 s

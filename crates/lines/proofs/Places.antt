@@ -2,7 +2,7 @@
 -- Assumes nothing.
 use mathlib.Core.Path.{_≡_, refl, sym, ap, subst, _∙_}
 use mathlib.Core.Bool.{Bool, true, false, cond, not, _&&_, Bool·not-not}
-use mathlib.Core.List.{List, [], _∷_, _++_, append-nil, append-assoc, map}
+use mathlib.Core.List.{List, [], _∷_, _++_, append-nil, append-assoc}
 use Prim.Native.Nat.{ℕ, zero, suc, _+_, _≤_, _<_}
 use native.Mathlib.Omega.{arith}
 use lib.Dec.{eqb, ltb}
@@ -16,7 +16,7 @@ use Rattle.names.specs.Labels.{labels, labelWord}
 use Rattle.names.specs.Registers.{registerName}
 use Rattle.names.specs.declared.Arm.{Arm}
 use Rattle.operands.specs.Kinds.{isAbsent, isRegister, isMemory}
-use Rattle.operands.specs.Parts.{operandIn, shownOf, segmentOf, immediateKind, immediateOf, bare}
+use Rattle.operands.specs.Parts.{shownOf, segmentOf, immediateKind, immediateOf, bare}
 use Rattle.operands.specs.RegisterBytes.{st0}
 use Rattle.operands.specs.declared.Address.{Address}
 use Rattle.operands.specs.declared.Instruction.{Instruction}
@@ -45,8 +45,8 @@ use Rattle.lines.specs.Brackets.{bracketText}
 use Rattle.lines.specs.Items.{absoluteText, branchText, shownText, itemText}
 use Rattle.lines.specs.Head.{headOf}
 use Rattle.lines.specs.Text.{headText, shows, partedText, itemsText, itemsFrom, lineText, lineBy}
-use Rattle.lines.proofs.Groups.{not-one-of}
 use Rattle.lines.specs.Code.{shownSegment, frontText, registerText, placeAt, separatorAt}
+use Rattle.lines.proofs.Groups.{not-one-of}
 
 -- a table's end may have an empty word more
 empty-last : (ws : List (List ℕ)) (n : ℕ) → getD (ws ++ ([] ∷ [])) n [] ≡ getD ws n []

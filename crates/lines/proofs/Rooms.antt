@@ -1,33 +1,31 @@
 -- The line of a body that stores at most four operands is short against the body: what room is enough for it.
 -- Assumes nothing.
 use mathlib.Core.Path.{_≡_, refl, ap, _∙_}
-use mathlib.Core.Logic.{_⊎_, inl, inr, ⊎-elim}
 use mathlib.Core.Bool.{Bool, true, false, cond, _&&_}
-use mathlib.Core.List.{List, _++_}
-use Prim.Native.Nat.{ℕ, zero, suc, _+_, _*_, _≤_, _<_}
+use mathlib.Core.List.{List}
+use Prim.Native.Nat.{ℕ, zero, suc, _+_, _*_, _≤_}
 use native.Mathlib.Decide.{decLt}
 use native.Mathlib.Omega.{arith}
 use lib.Dec.{T, ltb, leb, leb→le, lit≤}
-use lib.ListN.{length, length-append}
+use lib.ListN.{length}
 use borrow.Author.Tests.{lt-ltb, le-ltb}
 use Rattle.text.specs.Words.{bytes}
 use Rattle.text.proofs.Choosing.{cond-most}
 use Rattle.text.proofs.Tables.{both-left, both-right}
 use Rattle.names.specs.declared.Arm.{Arm}
-use Rattle.names.specs.Registers.{registerName}
 use Rattle.operands.specs.declared.Instruction.{Instruction}
 use Rattle.operands.specs.declared.Item.{Item}
-use Rattle.branches.specs.Sums.{branchShown}
-use Rattle.branches.specs.declared.Mode.{Mode}
 use Rattle.bodies.specs.Body.{countOf}
 use Rattle.bodies.specs.Decoding.{instructionOf}
+use Rattle.branches.specs.Sums.{branchShown}
+use Rattle.branches.specs.declared.Mode.{Mode}
 use Rattle.places.specs.Places.{branchOf, itemAt, itemsAt}
 use Rattle.places.specs.declared.Place.{Place}
 use Rattle.places.specs.declared.Place.the-variants as place
 use Rattle.places.specs.declared.Plan.{Plan}
 use Rattle.lines.specs.Head.{headOf}
 use Rattle.lines.specs.Items.{shownText, itemText}
-use Rattle.lines.specs.Text.{headText, shows, partedText, itemsText, lineText, lineBy}
+use Rattle.lines.specs.Text.{shows, partedText, lineText, lineBy}
 use Rattle.lines.proofs.Places.{place-register, place-branch, shows-nothing, shows-stored}
 use Rattle.lines.proofs.Lengths.{parted-length, items-length, line-length}
 use Rattle.lines.proofs.Short.{register-short, branch-short, item-short, head-short}

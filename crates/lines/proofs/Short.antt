@@ -1,7 +1,6 @@
 -- No operand's text is longer than so; and "No line exceeds 256 bytes."
 -- Assumes nothing.
-use mathlib.Core.Path.{_≡_, ap}
-use mathlib.Core.Bool.{Bool, true, false, cond}
+use mathlib.Core.Bool.{Bool}
 use mathlib.Core.List.{List, _++_}
 use Prim.Native.Nat.{ℕ, _+_, _≤_}
 use native.Mathlib.Omega.{arith}
@@ -13,28 +12,28 @@ use Rattle.text.specs.Words.{bytes}
 use Rattle.text.proofs.Choosing.{length-when, cond-most}
 use Rattle.text.proofs.Tables.{no-longer}
 use Rattle.numerals.specs.Digits.{digits}
-use Rattle.numerals.specs.Numerals.{numeral, displacement, absolute}
+use Rattle.numerals.specs.Numerals.{displacement}
 use Rattle.numerals.proofs.Places.{length-digits}
 use Rattle.numerals.proofs.Short.{numeral-short, displacement-short, absolute-short}
 use Rattle.names.specs.Registers.{registers, registerName, segments, segmentName}
+use Rattle.names.specs.Opcodes.{mnemonics, mnemonic, opcodes}
+use Rattle.names.specs.Labels.{labels, labelWord}
 use Rattle.operands.specs.declared.Address.{Address}
 use Rattle.operands.specs.declared.Item.{Item}
 use Rattle.operands.specs.declared.Shown.{Shown}
 use Rattle.operands.specs.declared.Shown.the-variants.{Nothing, Name, St, Number, Word, Dword, Bracket, Branch}
 use Rattle.operands.specs.declared.Label.{Label}
+use Rattle.places.specs.Labels.{labelNumber}
 use Rattle.lines.specs.Fronts.{labelText, segmentText}
-use Rattle.lines.specs.Brackets.{baseText, scaleText, indexedText, indexText, tailText, bracketText}
-use Rattle.lines.specs.Items.{absoluteText, signText, branchText, shownText, itemText}
-use Rattle.lines.proofs.Parts.{bracket-length, absolute-length, branch-length, item-length}
-use Rattle.names.specs.Opcodes.{mnemonics, mnemonic, opcodes}
+use Rattle.lines.specs.Brackets.{baseText, scaleText, indexedText, indexText, tailText}
+use Rattle.lines.specs.Items.{branchText, shownText, itemText}
 use Rattle.lines.specs.declared.Head.{Head}
 use Rattle.lines.specs.declared.Line.{Line}
 use Rattle.lines.specs.declared.Name.{Name as Mnemonic}
 use Rattle.lines.specs.declared.Name.the-variants.{Opcode, Feni, Fdisi, Fsetpm}
-use Rattle.lines.specs.Text.{prefixesText, nameText, headText, shows, partedText, itemsText, lineText, longestLine}
+use Rattle.lines.specs.Text.{prefixesText, nameText, headText, shows, partedText, lineText, longestLine}
+use Rattle.lines.proofs.Parts.{bracket-length, absolute-length, branch-length, item-length}
 use Rattle.lines.proofs.Lengths.{prefixes-length, head-length, parted-length, items-length, line-length}
-use Rattle.names.specs.Labels.{labels, labelWord}
-use Rattle.places.specs.Labels.{labelNumber}
 
 -- a text that stands only where it is called for is no longer than the text
 when-most : (b : Bool) (t : List ℕ) → length (when b t) ≤ length t
