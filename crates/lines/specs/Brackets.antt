@@ -20,7 +20,7 @@ baseText based base = when based (registerName base)
 unfoldable pub scaleText : ℕ → List ℕ
 scaleText scale = when (ltb 1 scale) (bytes " * " ++ digits 1 scale)
 
--- the index and its scale, behind the base where there is one
+-- the index and its scale, after the base where there is one
 unfoldable pub indexedText : Bool → ℕ → ℕ → List ℕ
 indexedText based index scale = when based (bytes " + ") ++ (registerName index ++ scaleText scale)
 

@@ -1,0 +1,126 @@
+-- Several arms of a `match` that answer alike: what the code is told there is that the arm's tag is one of some tags, and a
+-- definition that has one value at each of these arms has it at the arm.
+-- Assumes nothing.
+use mathlib.Core.Path.{_≡_, refl, sym, ap, _∙_}
+use mathlib.Core.Logic.{inl, inr}
+use mathlib.Core.Bool.{Bool, true, false, cond, Bool·beq, not, _&&_}
+use mathlib.Core.List.{List, [], _∷_, _++_, map}
+use Prim.Native.Nat.{ℕ, zero, suc}
+use lib.Dec.{T, T-not, eqb}
+use borrow.Author.Tests.{eq-eqb}
+use store.Enc.{and-l, and-r}
+use types.Run.{OneOf}
+use denote.Enum.Declared.{tagOf}
+use Rattle.text.specs.Words.{every}
+use Rattle.text.proofs.Tables.{both-left, both-right}
+use Rattle.names.proofs.Arm.{the-type}
+use Rattle.names.proofs.ArmNumbers.{armAt}
+use Rattle.names.specs.declared.Arm.{Arm}
+use Rattle.names.specs.declared.Arm.the-variants as arm
+use Rattle.names.specs.Among.{isOneOf}
+
+-- the place of an arm in the declaration, which the code goes by
+abbrev pub tag : Arm → ℕ
+tag x = tagOf the-type x
+
+at-tag : (x : Arm) → armAt (tag x) ≡ x
+at-tag arm.General = refl
+at-tag arm.Qword = refl
+at-tag arm.Mmword = refl
+at-tag arm.Jmpf = refl
+at-tag arm.Callf = refl
+at-tag arm.Lds = refl
+at-tag arm.Movs = refl
+at-tag arm.Cmps = refl
+at-tag arm.Branch = refl
+at-tag arm.Xbegin = refl
+at-tag arm.Feni = refl
+at-tag arm.Fdisi = refl
+at-tag arm.Fsetpm = refl
+at-tag arm.Hreset = refl
+at-tag arm.Lsl = refl
+at-tag arm.Prefetch = refl
+at-tag arm.Sgdt = refl
+at-tag arm.Lss = refl
+at-tag arm.Nop = refl
+at-tag arm.Monitor = refl
+at-tag arm.Mwait = refl
+at-tag arm.Invlpgb = refl
+at-tag arm.Rdpru = refl
+at-tag arm.Scas = refl
+at-tag arm.Lods = refl
+at-tag arm.Psmash = refl
+at-tag arm.Pvalidate = refl
+at-tag arm.Incssp = refl
+at-tag arm.Wrss = refl
+at-tag arm.Pblendvb = refl
+at-tag arm.Lea = refl
+at-tag arm.Pushf = refl
+at-tag arm.Aam = refl
+at-tag arm.Fcom = refl
+at-tag arm.Fadd = refl
+at-tag arm.Fbld = refl
+at-tag arm.Fbstp = refl
+
+by-tag : (x y : Arm) → tag x ≡ tag y → x ≡ y
+by-tag x y e = sym (at-tag x) ∙ (ap armAt e ∙ at-tag y)
+
+-- the first k arms
+abbrev pub firstArms : ℕ → List Arm
+firstArms zero = []
+firstArms (suc k) = firstArms k ++ (armAt k ∷ [])
+
+-- a list without the arms of another
+abbrev pub without : List Arm → List Arm → List Arm
+without xs [] = []
+without xs (y ∷ ys) = cond (isOneOf y xs) (without xs ys) (y ∷ without xs ys)
+
+-- the arms that are none of these: those of a `_`
+abbrev pub others : List Arm → List Arm
+others xs = without xs (firstArms 37)
+
+-- a fact at each arm of a list
+abbrev pub Each : (Arm → Type 0) → List Arm → Type 0
+Each P [] = Unit
+Each P (x ∷ xs) = P x × Each P xs
+
+pub at-group :
+    {X : Type 0} (f : Arm → X) (v : X) (xs : List Arm) (arm : Arm) →
+    Each (λ (x : Arm). f x ≡ v) xs →
+    OneOf (map tag xs) (tag arm) →
+    f arm ≡ v
+at-group f v [] arm all o = absurd o
+at-group f v (x ∷ []) arm all o = ap f (by-tag arm x o) ∙ all .0
+at-group f v (x ∷ (y ∷ ys)) arm all (inl e) = ap f (by-tag arm x e) ∙ all .0
+at-group f v (x ∷ (y ∷ ys)) arm all (inr o) = at-group f v (y ∷ ys) arm (all .1) o
+
+-- the same where both sides compute, as one test
+abbrev pub all-are : (Arm → Bool) → Bool → List Arm → Bool
+all-are f v [] = true
+all-are f v (x ∷ xs) = Bool·beq (f x) v && all-are f v xs
+
+equal : (p q : Bool) → T (Bool·beq p q) → p ≡ q
+equal true true t = refl
+equal true false t = absurd t
+equal false true t = absurd t
+equal false false t = refl
+
+each : (f : Arm → Bool) (v : Bool) (xs : List Arm) → T (all-are f v xs) → Each (λ (x : Arm). f x ≡ v) xs
+each f v [] t = tt
+each f v (x ∷ xs) t = (equal (f x) v (and-l (Bool·beq (f x) v) (all-are f v xs) t), each f v xs (and-r (Bool·beq (f x) v) (all-are f v xs) t))
+
+pub of-group :
+    (f : Arm → Bool) (v : Bool) (xs : List Arm) (arm : Arm) →
+    T (all-are f v xs) →
+    OneOf (map tag xs) (tag arm) →
+    f arm ≡ v
+of-group f v xs arm t o = at-group f v xs arm (each f v xs t) o
+
+-- a tag that is none of some tags
+pub not-one-of : (n : ℕ) (ks : List ℕ) → T (every (λ (k : ℕ). not (eqb n k)) ks) → OneOf ks n → ⊥
+not-one-of n [] t o = o
+not-one-of n (k ∷ []) t e = T-not (eqb n k) (both-left (not (eqb n k)) true t) (rw (eq-eqb n k e) tt)
+not-one-of n (k ∷ (l ∷ ls)) t (inl e) =
+    T-not (eqb n k) (both-left (not (eqb n k)) (every (λ (k : ℕ). not (eqb n k)) (l ∷ ls)) t) (rw (eq-eqb n k e) tt)
+not-one-of n (k ∷ (l ∷ ls)) t (inr o) =
+    not-one-of n (l ∷ ls) (both-right (not (eqb n k)) (every (λ (k : ℕ). not (eqb n k)) (l ∷ ls)) t) o

@@ -1,0 +1,124 @@
+-- The line of a body that stores at most four operands is short against the body: what room is enough for it.
+-- Assumes nothing.
+use mathlib.Core.Path.{_≡_, refl, ap, _∙_}
+use mathlib.Core.Bool.{Bool, true, false, cond, _&&_}
+use mathlib.Core.List.{List}
+use Prim.Native.Nat.{ℕ, zero, suc, _+_, _*_, _≤_}
+use native.Mathlib.Decide.{decLt}
+use native.Mathlib.Omega.{arith}
+use lib.Dec.{T, ltb, leb, leb→le, lit≤}
+use lib.ListN.{length}
+use borrow.Author.Tests.{lt-ltb, le-ltb}
+use Rattle.text.specs.Words.{bytes}
+use Rattle.text.proofs.Choosing.{cond-most}
+use Rattle.text.proofs.Tables.{both-left, both-right}
+use Rattle.names.specs.declared.Arm.{Arm}
+use Rattle.operands.specs.declared.Instruction.{Instruction}
+use Rattle.operands.specs.declared.Item.{Item}
+use Rattle.bodies.specs.Body.{countOf}
+use Rattle.bodies.specs.Decoding.{instructionOf}
+use Rattle.branches.specs.Sums.{branchShown}
+use Rattle.branches.specs.declared.Mode.{Mode}
+use Rattle.places.specs.Places.{branchOf, itemAt, itemsAt}
+use Rattle.places.specs.declared.Place.{Place}
+use Rattle.places.specs.declared.Place.the-variants as place
+use Rattle.places.specs.declared.Plan.{Plan}
+use Rattle.lines.specs.Head.{headOf}
+use Rattle.lines.specs.Items.{shownText, itemText}
+use Rattle.lines.specs.Text.{shows, partedText, lineText, lineBy}
+use Rattle.lines.proofs.Places.{place-register, place-branch, shows-nothing, shows-stored}
+use Rattle.lines.proofs.Lengths.{parted-length, items-length, line-length}
+use Rattle.lines.proofs.Short.{register-short, branch-short, item-short, head-short}
+
+-- the operand of a place has at least the number j
+abbrev pub isFrom : ℕ → Place → Bool
+isFrom j place.Nothing = true
+isFrom j (place.Register reg) = true
+isFrom j place.Branch = true
+isFrom j (place.Operand k label segment short) = leb j k
+
+-- no place shows an operand with a lower number than its own: so a line shows no more operands than the body stores
+abbrev pub inOrder : Plan → Bool
+inOrder plan = isFrom 0 (plan .a) && (isFrom 1 (plan .b) && (isFrom 2 (plan .c) && isFrom 3 (plan .d)))
+
+-- the most that place j takes: an operand, or a branch
+abbrev share : ℕ → ℕ → ℕ
+share count j = cond (ltb j count) 49 23
+
+share-least : (b : Bool) → 23 ≤ cond b 49 23
+share-least true = lit≤ tt
+share-least false = lit≤ tt
+
+-- the shares of four places, after the head and before a newline
+shares : (count : ℕ) → count ≤ 4 → 48 + (share count 0 + share count 1 + share count 2 + share count 3) ≤ 9 * (16 + 5 * count)
+shares zero h = lit≤ tt
+shares (suc zero) h = lit≤ tt
+shares (suc (suc zero)) h = lit≤ tt
+shares (suc (suc (suc zero))) h = lit≤ tt
+shares (suc (suc (suc (suc zero)))) h = lit≤ tt
+shares (suc (suc (suc (suc (suc count))))) h = absurd (omega arith)
+
+branch-shown-short : (mode : Mode) (i : Instruction) → length (shownText (branchOf mode i)) ≤ 21
+unfolding branchShown shownText
+branch-shown-short mode i = branch-short _ _ _
+
+-- no longer than what parts it and its item
+parted-most : (s : List ℕ) (i : Item) → length (partedText s i) ≤ length s + length (itemText i)
+parted-most s i = omega (arith, parted-length s i, cond-most (shows (i .shown)) (length s + length (itemText i)))
+
+parted-none : (s : List ℕ) (i : Item) → shows (i .shown) ≡ false → length (partedText s i) ≡ 0
+parted-none s i e = parted-length s i ∙ ap (λ (b : Bool). cond b (length s + length (itemText i)) 0) e
+
+module _ (mode : Mode) (body : List ℕ) (few : countOf body ≤ 4) (s : List ℕ) (parts : length s ≤ 2) (j : ℕ) where
+  abbrev textAt : Place → List ℕ
+  textAt p = partedText s (itemAt mode (instructionOf body) p)
+
+  place-within : (p : Place) → T (isFrom j p) → length (textAt p) ≤ share (countOf body) j
+  place-within place.Nothing t =
+      omega (arith, parted-none s (itemAt mode (instructionOf body) place.Nothing) (shows-nothing mode (instructionOf body) {p = place.Nothing} refl))
+  place-within (place.Register reg) t =
+      omega (
+        arith,
+        share-least (ltb j (countOf body)),
+        parted-most s (itemAt mode (instructionOf body) (place.Register reg)),
+        ap length (place-register mode (instructionOf body) {p = place.Register reg} refl),
+        register-short reg,
+        parts,
+      )
+  place-within place.Branch t =
+      omega (
+        arith,
+        share-least (ltb j (countOf body)),
+        parted-most s (itemAt mode (instructionOf body) place.Branch),
+        ap length (place-branch mode (instructionOf body) {p = place.Branch} refl),
+        branch-shown-short mode (instructionOf body),
+        parts,
+      )
+  place-within (place.Operand k label segment short) t =
+      let p = place.Operand k label segment short in
+      let i = itemAt mode (instructionOf body) p in
+      elim (decLt k (countOf body)) [
+        | yes h ↦ rw (lt-ltb j (countOf body) (let l = leb→le j k t in omega arith)) (omega (arith, parted-most s i, item-short i, parts))
+        | no h ↦ omega (arith, parted-none s i (shows-stored mode body few {p = p} refl ∙ le-ltb k (countOf body) (omega arith)))
+      ]
+
+pub line-within :
+    (mode : Mode) (arm : Arm) (plan : Plan) (body : List ℕ) →
+    T (inOrder plan) → countOf body ≤ 4 →
+    length (lineText (lineBy mode arm plan (instructionOf body))) + 1 ≤ 9 * (16 + 5 * countOf body)
+unfolding itemsAt
+line-within mode arm plan body ordered few =
+    let i = instructionOf body in
+    let from-1 = both-right (isFrom 0 (plan .a)) (isFrom 1 (plan .b) && (isFrom 2 (plan .c) && isFrom 3 (plan .d))) ordered in
+    let from-2 = both-right (isFrom 1 (plan .b)) (isFrom 2 (plan .c) && isFrom 3 (plan .d)) from-1 in
+    omega (
+      arith,
+      line-length (lineBy mode arm plan i),
+      head-short (headOf arm (i .opcode) (i .flags)),
+      items-length (itemsAt mode i plan),
+      place-within mode body few (bytes " ") (lit≤ tt) 0 (plan .a) (both-left (isFrom 0 (plan .a)) (isFrom 1 (plan .b) && (isFrom 2 (plan .c) && isFrom 3 (plan .d))) ordered),
+      place-within mode body few (bytes ", ") (lit≤ tt) 1 (plan .b) (both-left (isFrom 1 (plan .b)) (isFrom 2 (plan .c) && isFrom 3 (plan .d)) from-1),
+      place-within mode body few (bytes ", ") (lit≤ tt) 2 (plan .c) (both-left (isFrom 2 (plan .c)) (isFrom 3 (plan .d)) from-2),
+      place-within mode body few (bytes ", ") (lit≤ tt) 3 (plan .d) (both-right (isFrom 2 (plan .c)) (isFrom 3 (plan .d)) from-2),
+      shares (countOf body) few,
+    )

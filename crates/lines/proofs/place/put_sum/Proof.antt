@@ -1,0 +1,42 @@
+-- `lines::place::put_sum` meets its contract: three puts, one after the other.
+-- Assumes nothing.
+use mathlib.Core.List.{_++_}
+use borrow.Author.Needs.{needs}
+use Rattle.lines.proofs.place.put_sum.Statement.{statement}
+use Rattle.lines.proofs.place.put_sum.Tie as tie
+use Rattle.text.proofs.Putting.{first, rest, and-then}
+use Rattle.numerals.specs.Numerals.{numeral}
+use Rattle.lines.specs.Items.{signText, branchText}
+
+slice-aggregate-put-when : tie.Need-slice-aggregate-put-when
+slice-aggregate-put-when c = search needs
+
+put-when-requires : tie.Need-put-when-requires
+unfolding branchText
+put-when-requires c κs = first (signText (c .before .before .before .args .minus) ++ numeral (c .before .before .before .args .size)) ((c .before .before .before .pre))
+
+put-sign-requires : tie.Need-put-sign-requires
+unfolding branchText
+put-sign-requires c κs = first (numeral (c .before .before .before .before .before .before .before .args .size)) (rest ((c .before .before .before .before .before .before .before .pre)) (c .before .before .before .put-when .ensures))
+
+put-numeral-requires : tie.Need-put-numeral-requires
+unfolding branchText
+put-numeral-requires c κs = rest (rest ((c .before .before .before .before .before .before .before .before .before .before .before .pre)) (c .before .before .before .before .before .before .before .put-when .ensures)) (c .before .before .before .put-sign .ensures)
+
+same-length : tie.Need-same-length
+same-length c = search needs
+
+returns : tie.Need-returns
+unfolding branchText
+returns c = and-then ((c .before .before .before .before .before .before .before .before .before .before .before .before .before .before .pre)) (c .before .before .before .before .before .before .before .before .before .before .put-when .ensures) (and-then (rest ((c .before .before .before .before .before .before .before .before .before .before .before .before .before .before .pre)) (c .before .before .before .before .before .before .before .before .before .before .put-when .ensures)) (c .before .before .before .before .before .before .put-sign .ensures) ((c .before .before .put-numeral .ensures)))
+
+pub put-sum-spec : {M : Type 1} → statement M
+put-sum-spec =
+    tie.close
+    (tie.spec
+    slice-aggregate-put-when
+    put-when-requires
+    put-sign-requires
+    put-numeral-requires
+    same-length
+    returns)

@@ -1,0 +1,31 @@
+-- `lines::place::shown_segment` meets its contract, case by case.
+-- Assumes nothing.
+use borrow.Author.Tests.{eq-eqb, ne-eqb}
+use borrow.Author.Needs.{needs}
+use Rattle.lines.proofs.place.shown_segment.Statement.{statement}
+use Rattle.lines.proofs.place.shown_segment.Tie as tie
+
+enum-told : tie.Need-enum-told
+enum-told c = search needs
+
+enum-told-2 : tie.Need-enum-told-2
+enum-told-2 c = search needs
+
+enum-told-3 : tie.Need-enum-told-3
+enum-told-3 c = search needs
+
+returns : tie.Need-returns
+returns c = search needs
+
+returns-2 : tie.Need-returns-2
+returns-2 c = search needs
+
+returns-3 : tie.Need-returns-3
+returns-3 c = rw ((c .before .enum-told3) .given .1, eq-eqb ((c .before .before .before .args) .own) 4 ((c .if1) .taken))
+
+returns-4 : tie.Need-returns-4
+returns-4 c = rw ((c .before .enum-told3) .given .1, ne-eqb ((c .before .before .before .args) .own) 4 ((c .if1) .left))
+
+pub shown-segment-spec : {M : Type 1} → statement M
+shown-segment-spec =
+    tie.close (tie.spec enum-told enum-told-2 enum-told-3 returns returns-2 returns-3 returns-4)

@@ -1,0 +1,51 @@
+-- `lines::place::shows_something` meets its contract, case by case.
+-- Assumes nothing.
+use denote.Ref.{now}
+use mathlib.Core.Path.{sym, ap, _∙_}
+use lib.Dec.{ltb}
+use Rattle.bodies.specs.Decoding.{instructionOf}
+use Rattle.lines.proofs.Places.{shows-nothing, shows-register, shows-branch, shows-stored}
+use borrow.Author.Needs.{needs}
+use Rattle.lines.proofs.place.shows_something.Statement.{statement}
+use Rattle.lines.proofs.place.shows_something.Tie as tie
+
+enum-told : tie.Need-enum-told
+enum-told c = search needs
+
+enum-told-2 : tie.Need-enum-told-2
+enum-told-2 c = search needs
+
+enum-told-3 : tie.Need-enum-told-3
+enum-told-3 c = search needs
+
+enum-known-place : tie.Need-enum-known-place
+enum-known-place c = search needs
+
+count-requires : tie.Need-count-requires
+count-requires c κs = search needs
+
+returns : tie.Need-returns
+returns c = λ mode. sym (shows-nothing mode (instructionOf (now ((c .before .before .before .args) .body))) ((c .enum-told) .given .1))
+
+returns-2 : tie.Need-returns-2
+returns-2 c = λ mode. sym (shows-register mode (instructionOf (now ((c .before .before .before .args) .body))) ((c .enum-told2) .given .1))
+
+returns-3 : tie.Need-returns-3
+returns-3 c = λ mode. sym (shows-branch mode (instructionOf (now ((c .before .before .before .args) .body))) ((c .enum-told3) .given .1))
+
+returns-4 : tie.Need-returns-4
+returns-4 c = λ mode. ap (ltb ((c .before .before .place) .given .0 .0)) ((c .count) .ensures) ∙ sym (shows-stored mode (now ((c .before .before .before .before .before .args) .body)) ((c .before .before .before .before .before .pre) .1) ((c .before .before .place) .given .1))
+
+pub shows-something-spec : {M : Type 1} → statement M
+shows-something-spec =
+    tie.close
+    (tie.spec
+    enum-told
+    enum-told-2
+    enum-told-3
+    enum-known-place
+    count-requires
+    returns
+    returns-2
+    returns-3
+    returns-4)

@@ -1,0 +1,39 @@
+-- `lines::print::put_line` meets its contract: the head, and the places after it.
+-- Assumes nothing.
+use denote.Ref.{now}
+use mathlib.Core.Path.{sym}
+use Rattle.text.proofs.Putting.{first, rest, and-then, room-as, put-as}
+use Rattle.lines.proofs.Places.{line-by}
+use borrow.Author.Needs.{needs}
+use Rattle.lines.proofs.print.put_line.Statement.{statement}
+use Rattle.lines.proofs.print.put_line.Tie as tie
+
+opcode-requires : tie.Need-opcode-requires
+opcode-requires c κs = search needs
+
+flags-requires : tie.Need-flags-requires
+flags-requires c κs = search needs
+
+put-head-requires : tie.Need-put-head-requires
+put-head-requires c κs = ((c .before .before .before .before .before .pre) .0, first _ (room-as (line-by ((c .before .before .before .before .before .args) .mode) ((c .before .before .before .before .before .args) .arm) ((c .before .before .before .before .before .args) .plan) (now ((c .before .before .before .before .before .args) .body)) ((c .before .before .opcode) .ensures) ((c .before .flags) .ensures)) ((c .before .before .before .before .before .pre) .1 .1 .1 .1 .1)))
+
+put-places-requires : tie.Need-put-places-requires
+put-places-requires c κs = ((c .before .before .before .before .before .before .before .before .before .pre) .1 .0, ((c .before .before .before .before .before .before .before .before .before .pre) .1 .1 .0, ((c .before .before .before .before .before .before .before .before .before .pre) .1 .1 .1 .0, ((c .before .before .before .before .before .before .before .before .before .pre) .1 .1 .1 .1 .0, rest (room-as (line-by ((c .before .before .before .before .before .before .before .before .before .args) .mode) ((c .before .before .before .before .before .before .before .before .before .args) .arm) ((c .before .before .before .before .before .before .before .before .before .args) .plan) (now ((c .before .before .before .before .before .before .before .before .before .args) .body)) ((c .before .before .before .before .before .before .opcode) .ensures) ((c .before .before .before .before .before .flags) .ensures)) ((c .before .before .before .before .before .before .before .before .before .pre) .1 .1 .1 .1 .1)) ((c .before .before .before .put-head) .ensures)))))
+
+same-length : tie.Need-same-length
+same-length c = search needs
+
+returns : tie.Need-returns
+returns c = let by = line-by ((c .before .before .before .before .before .before .before .before .before .before .before .before .args) .mode) ((c .before .before .before .before .before .before .before .before .before .before .before .before .args) .arm) ((c .before .before .before .before .before .before .before .before .before .before .before .before .args) .plan) (now ((c .before .before .before .before .before .before .before .before .before .before .before .before .args) .body)) ((c .before .before .before .before .before .before .before .before .before .opcode) .ensures) ((c .before .before .before .before .before .before .before .before .flags) .ensures) in
+    put-as (sym by) (and-then (room-as by ((c .before .before .before .before .before .before .before .before .before .before .before .before .pre) .1 .1 .1 .1 .1)) ((c .before .before .before .before .before .before .put-head) .ensures) ((c .before .before .put-places) .ensures))
+
+pub put-line-spec : {M : Type 1} → statement M
+put-line-spec =
+    tie.close
+    (tie.spec
+    opcode-requires
+    flags-requires
+    put-head-requires
+    put-places-requires
+    same-length
+    returns)
