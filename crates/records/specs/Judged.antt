@@ -2,11 +2,14 @@
 -- Assumes nothing.
 use mathlib.Core.Bool.{Bool, cond}
 use mathlib.Core.List.{List}
+use mathlib.Core.Path.{_≡_}
 use Prim.Native.Nat.{ℕ}
 use lib.Dec.{eqb}
+use Rattle.text.specs.Write.{Put}
 use Rattle.answers.specs.Refusals.{answerOf}
 use Rattle.bodies.specs.Decoding.{instructionOf}
 use Rattle.arms.specs.Plans.{planOf}
+use Rattle.records.specs.Lines.{textOf}
 use Rattle.records.specs.Records.{armAt, refusals}
 use Rattle.records.specs.declared.Asked.{Asked}
 use Rattle.records.specs.declared.Judged.{Judged}
@@ -18,3 +21,8 @@ judgedAs answer body =
 
 unfoldable pub judged : Asked → List ℕ → Judged
 judged asked body = judgedAs (answerOf (refusals asked body)) body
+
+-- what was put of a record: its answer before there is a buffer, and its text
+pub record Puts (alone : Bool) (asked : Asked) (body before : List ℕ) (at number out : ℕ) (after : List ℕ) : Type 0 where
+  pub answer : number ≡ answerOf (refusals asked body)
+  pub put : Put before at (textOf alone asked body) out after

@@ -1,4 +1,5 @@
--- The outcome of one record, and document 01's lines to prove. Definitions only: the laws are in proofs/.
+-- The outcome of one record, its line, and document 01's lines to prove. Definitions only: the laws are in proofs/.
 pub mod Records
-pub mod Judged
 pub mod Lines
+pub mod Judged
+pub mod Compared

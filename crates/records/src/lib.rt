@@ -1,6 +1,7 @@
-// One record: every body, all that is asked, and every buffer gets an answer.
+// One record: every body, all that is asked, and every buffer gets an answer. `put` is the one way in which a record is printed.
 pub mod judge;
 pub mod print;
+pub mod put;
 
 use names::Arm;
 use places::Plan;
@@ -14,4 +15,10 @@ pub struct Asked {
 pub enum Judged {
     Refused(u8),
     Accepted { arm: Arm, plan: Plan },
+}
+
+// What was put of a record: its answer before there is a buffer, and the place after its text.
+pub struct Placed {
+    pub number: u8,
+    pub out: usize,
 }

@@ -1,0 +1,72 @@
+// A record at a place of a lent buffer: alone, or as a line of a listing.
+ghost use mathlib.Core.Path.{_≡_};
+ghost use Rattle.text.specs.Write.{Room, Put};
+ghost use Rattle.names.specs.Opcodes.{MnemonicTable, ArmTable};
+ghost use Rattle.names.specs.Registers.{RegisterTable};
+ghost use Rattle.names.specs.Labels.{LabelTable};
+ghost use Rattle.records.specs.Lines.{textOf};
+ghost use Rattle.records.specs.Judged.{Puts};
+use crate::Asked;
+use crate::Judged;
+use crate::Placed;
+use crate::judge;
+use answers::PRINTED;
+use lines::print::put_line;
+use names::labels;
+use names::opcodes;
+use names::registers;
+
+// Alone a record that is refused has no text; in a listing it has a line, and every line ends in a newline.
+pub fn put_record(
+    name_letters: &opcodes::Letters,
+    name_starts: &opcodes::Starts,
+    register_letters: &registers::Letters,
+    register_starts: &registers::Starts,
+    label_letters: &labels::Letters,
+    label_starts: &labels::Starts,
+    arms: &opcodes::Arms,
+    body: &[u8],
+    asked: Asked,
+    alone: bool,
+    text: &mut [u8],
+    at: usize,
+) -> Placed
+    requires { ⌜ MnemonicTable (now «name_letters») (now «name_starts») ⌝ }
+    requires { ⌜ RegisterTable (now «register_letters») (now «register_starts») ⌝ }
+    requires { ⌜ LabelTable (now «label_letters») (now «label_starts») ⌝ }
+    requires { ⌜ ArmTable (now arms) ⌝ }
+    requires { ⌜ Room (now text) at (textOf alone asked (now body)) ⌝ }
+    ensures { λ r. ⌜ Puts alone asked (now (body .entry)) (now (text .entry)) at (r .number) (r .out) (now (text .exit)) ⌝ }
+{
+    match judge::judge(arms, body, asked) {
+        Judged::Refused(number) => {
+            if alone {
+                Placed { number, out: at }
+            } else {
+                let out = answers::put_refused(text, at, number);
+                Placed { number, out }
+            }
+        }
+        Judged::Accepted { arm, plan } => {
+            let next = put_line(
+                text,
+                at,
+                name_letters,
+                name_starts,
+                register_letters,
+                register_starts,
+                label_letters,
+                label_starts,
+                body,
+                judge::mode_of(asked),
+                arm,
+                plan,
+            );
+            let out = text::put_when(text, next, !alone, b"\n");
+            Placed {
+                number: PRINTED,
+                out,
+            }
+        }
+    }
+}
