@@ -102,6 +102,7 @@ module _ (mode : Mode) (body : List ℕ) (few : countOf body ≤ 4) (s : List �
         | no h ↦ omega (arith, parted-none s i (shows-stored mode body few {p = p} refl ∙ le-ltb k (countOf body) (omega arith)))
       ]
 
+-- the line of such a plan, and a newline after it; a plan that showed one operand four times could need more
 pub line-within :
     (mode : Mode) (arm : Arm) (plan : Plan) (body : List ℕ) →
     T (inOrder plan) → countOf body ≤ 4 →
