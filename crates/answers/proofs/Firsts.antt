@@ -1,13 +1,15 @@
 -- The first refusal that applies: it is one, `answerOf` finds it, and where the numbers ascend it is the lowest that applies.
 -- Assumes nothing.
 use mathlib.Core.Path.{_≡_, refl, sym, ap, subst, _∙_}
-use mathlib.Core.Bool.{Bool, true, false, cond, _&&_, true≢false, false≢true}
+use mathlib.Core.Bool.{Bool, true, false, cond, not, _&&_, true≢false, false≢true}
 use mathlib.Core.Logic.{_⊎_, inl, inr, _↔_}
 use mathlib.Core.List.{List, [], _∷_, _++_}
 use Prim.Native.Nat.{ℕ, _≤_, _<_}
 use native.Mathlib.Omega.{arith}
-use lib.Dec.{eqb, ltb}
-use borrow.Author.Tests.{eq-eqb, ne-eqb, ltb-true}
+use lib.Dec.{T, eqb, ltb}
+use borrow.Author.Tests.{eq-eqb, ne-eqb, ltb-true, eqb-false, not-true}
+use Rattle.text.specs.Words.{every}
+use Rattle.text.proofs.Tables.{both-left, both-right, so}
 use Rattle.answers.specs.Refusals.{Refusal, refusal, answerOf, First, here, later, None, Numbered, ascending, applies, Lowest}
 
 -- a test is one of two
@@ -140,3 +142,32 @@ ascending-lowest rs up k = (first-lowest up, λ low. there low (first-or-none rs
         let other = first-lowest up f in
         subst (First rs) (omega (arith, not-lower low other, not-lower other low)) f
     there low (inr n) = absurd (true≢false (sym (low .own) ∙ none-applies rs k n))
+
+-- What every number of a list passes as one computed test, its answer passes.
+pub numbered-by : (rs : List Refusal) → T (every (λ (r : Refusal). ltb 0 (r .number)) rs) → Numbered rs
+numbered-by [] t = tt
+numbered-by (r ∷ rs) t =
+    let f : Refusal → Bool = λ (s : Refusal). ltb 0 (s .number) in
+    (ltb-true 0 (r .number) (so (f r) (both-left (f r) (every f rs) t)), numbered-by rs (both-right (f r) (every f rs) t))
+
+below-by : (b : Bool) (m x n : ℕ) → m < n → x < n → cond b m x < n
+below-by true m x n h l = h
+below-by false m x n h l = l
+
+pub answer-below : (n : ℕ) (rs : List Refusal) → 0 < n → T (every (λ (r : Refusal). ltb (r .number) n) rs) → answerOf rs < n
+answer-below n [] h t = h
+answer-below n (r ∷ rs) h t =
+    let f : Refusal → Bool = λ (s : Refusal). ltb (s .number) n in
+    below-by (r .applies) (r .number) (answerOf rs) n (ltb-true (r .number) n (so (f r) (both-left (f r) (every f rs) t))) (answer-below n rs h (both-right (f r) (every f rs) t))
+
+not-by : (b : Bool) (m x n : ℕ) → (m ≡ n → ⊥) → (x ≡ n → ⊥) → cond b m x ≡ n → ⊥
+not-by true m x n f g = f
+not-by false m x n f g = g
+
+pub answer-not : (n : ℕ) (rs : List Refusal) → 0 < n → T (every (λ (r : Refusal). not (eqb (r .number) n)) rs) → answerOf rs ≡ n → ⊥
+answer-not n [] h t = λ e. omega (arith, h, e)
+answer-not n (r ∷ rs) h t =
+    let f : Refusal → Bool = λ (s : Refusal). not (eqb (s .number) n) in
+    not-by (r .applies) (r .number) (answerOf rs) n
+    (eqb-false (r .number) n (not-true (eqb (r .number) n) (so (f r) (both-left (f r) (every f rs) t))))
+    (answer-not n rs h (both-right (f r) (every f rs) t))

@@ -50,7 +50,7 @@ module _ (text before : List ℕ) {answer : ℕ} where
     buffer-front : answer ≡ 0 → take (lengthWith answer text) (bufferAfter answer text before) ≡ text
     buffer-front e = rw (length-printed text e, buffer-written e, ← zero-add (length text)) (take-write before 0 text (placed e))
 
-none-or-some : (k : ℕ) → (k ≡ 0) ⊎ (0 < k)
+pub none-or-some : (k : ℕ) → (k ≡ 0) ⊎ (0 < k)
 none-or-some zero = inl refl
 none-or-some (suc k) = inr (omega arith)
 

@@ -66,10 +66,14 @@ lines =
     inBoth (aam (0 ∷ 0 ∷ 1 ∷ 10 ∷ [])) "aam 0Ah" ∷
     inBoth (body 39 3 63 zeros zeros (1 ∷ 11 ∷ 5 ∷ 1 ∷ 0 ∷ 0 ∷ [])) "fxsave fs:[ecx]" ∷ []
 
+-- what is asked for in a mode
+abbrev pub asking : ℕ → Asked
+asking mode = record { mode = mode }
+
 -- in this mode the body is printed as this text, into every buffer that has room for it
 abbrev pub Prints : ℕ → List ℕ → List ℕ → Type 0
 Prints mode body text =
-    (buf : List ℕ) → length text ≤ length buf → recordOutcome record { mode = mode } body buf ≡ record { answer = 0; length = length text; buffer = write buf 0 text }
+    (buf : List ℕ) → length text ≤ length buf → recordOutcome (asking mode) body buf ≡ record { answer = 0; length = length text; buffer = write buf 0 text }
 
 -- it holds of every entry
 abbrev pub All : {A : Type 0} → (A → Type 0) → List A → Type 0

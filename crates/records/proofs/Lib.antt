@@ -1,0 +1,5 @@
+pub mod Judging
+pub mod Texts
+pub mod Unique
+pub mod InOrder
+pub mod PLines

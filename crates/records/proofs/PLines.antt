@@ -1,0 +1,64 @@
+-- Document 01's lines marked P hold: each is computed, and then printed into every buffer with room for it.
+-- Assumes nothing.
+use mathlib.Core.Path.{_≡_, refl, sym, ap, _∙_}
+use mathlib.Core.List.{List, [], _∷_, map}
+use Prim.Native.Nat.{ℕ}
+use borrow.Author.Tests.{le-ltb}
+use lib.ListN.{length}
+use Rattle.text.specs.Words.{bytes}
+use Rattle.answers.specs.Refusals.{answerOf}
+use Rattle.answers.specs.Outcomes.{outcomeOf}
+use Rattle.answers.proofs.Firsts.{answer-append}
+use Rattle.bodies.specs.Refusals.{lengthRefused, segmentKept, firstKept, secondKept, scaleKept, operandRefused, fieldRefused}
+use Rattle.bodies.specs.Decoding.{immediate, dispIn, addressOf, operandOf, operandAt, instructionOf}
+use Rattle.branches.specs.Sums.{signed, branchSum, branchShown}
+use Rattle.names.specs.Opcodes.{arms, armOf, opcodes, mnemonics, mnemonic}
+use Rattle.names.specs.Registers.{registers, registerName, segments, segmentName}
+use Rattle.names.specs.Labels.{labels, labelWord}
+use Rattle.places.specs.Labels.{labelAt}
+use Rattle.places.specs.Places.{operandShown, itemAt, itemsAt}
+use Rattle.arms.specs.Labels.{sizeLabel, generalLabel}
+use Rattle.arms.specs.Plans.{spread, general, planOf}
+use Rattle.arms.specs.Shape.{shapeRefused}
+use Rattle.arms.specs.Size.{sizeRefused}
+use Rattle.numerals.specs.Digits.{digit, digits, placesFrom, places}
+use Rattle.numerals.specs.Numerals.{figure, numeral, displacement}
+use Rattle.lines.specs.Fronts.{labelText, segmentText}
+use Rattle.lines.specs.Brackets.{baseText, indexText, tailText, bracketText}
+use Rattle.lines.specs.Items.{branchText, shownText, itemText}
+use Rattle.lines.specs.Head.{headOf}
+use Rattle.lines.specs.Text.{repsText, prefixesText, nameText, headText, partedText, itemsText, lineText}
+use Rattle.records.specs.Records.{refusals, lineAt, recordText, recordOutcome}
+use Rattle.records.specs.Compared.{asking, Compared, lines, Prints, All, Holds}
+use Rattle.records.proofs.Judging.{refusals-numbered}
+
+-- what a record comes to before there is a buffer: its answer, or 0, and the text
+abbrev Comes : Type 0
+Comes = record { answer : ℕ; text : List ℕ }
+
+abbrev comes : List ℕ → ℕ → Comes
+comes body mode = record { answer = answerOf (refusals (asking mode) body); text = recordText (asking mode) body }
+
+abbrev printed : List ℕ → ℕ → Comes
+printed text mode = record { answer = 0; text = text }
+
+computed : map (λ (c : Compared). map (comes (c .body)) (c .modes)) lines ≡ map (λ (c : Compared). map (printed (bytes (c .line))) (c .modes)) lines
+unfolding lines refusals recordText lineAt lengthRefused fieldRefused operandRefused segmentKept firstKept secondKept scaleKept shapeRefused sizeRefused armOf arms opcodes instructionOf operandAt operandOf immediate dispIn addressOf planOf spread general generalLabel sizeLabel labelAt operandShown itemAt itemsAt signed branchSum branchShown headOf digit digits placesFrom places figure numeral displacement mnemonics mnemonic registers registerName segments segmentName labels labelWord labelText segmentText baseText indexText tailText bracketText branchText shownText itemText repsText prefixesText nameText headText partedText itemsText lineText
+computed = refl
+
+prints : (text : List ℕ) (body : List ℕ) (mode : ℕ) → comes body mode ≡ printed text mode → Prints mode body text
+unfolding recordOutcome outcomeOf
+prints text body mode e buf fits =
+    let none : answerOf (refusals (asking mode) body) ≡ 0 = ap (λ (c : Comes). c .answer) e in
+    let is : recordText (asking mode) body ≡ text = ap (λ (c : Comes). c .text) e in
+    rw (is, answer-append (refusals (asking mode) body) _ (refusals-numbered (asking mode) body) none, le-ltb (length buf) (length text) fits)
+
+-- two tables that are equal are so entry by entry
+each : {A B : Type 0} {P : A → Type 0} (f g : A → B) → ((x : A) → f x ≡ g x → P x) → (xs : List A) → map f xs ≡ map g xs → All P xs
+each f g h [] e = tt
+each f g h (x ∷ xs) e = (h x cc, each f g h xs cc)
+
+pub p-lines : All Holds lines
+p-lines =
+    each (λ (c : Compared). map (comes (c .body)) (c .modes)) (λ (c : Compared). map (printed (bytes (c .line))) (c .modes))
+    (λ (c : Compared). each (comes (c .body)) (printed (bytes (c .line))) (prints (bytes (c .line)) (c .body)) (c .modes)) lines computed

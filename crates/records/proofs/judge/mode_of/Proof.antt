@@ -1,0 +1,14 @@
+-- `records::judge::mode_of` meets its contract, by its one test.
+-- Assumes nothing.
+use borrow.Author.Tests.{eq-eqb, ne-eqb}
+use Rattle.records.proofs.judge.mode_of.Statement.{statement}
+use Rattle.records.proofs.judge.mode_of.Tie as tie
+
+returns : tie.Need-returns
+returns c = rw (eq-eqb _ _ ((c .if1) .taken))
+
+returns-2 : tie.Need-returns-2
+returns-2 c = rw (ne-eqb _ _ ((c .if1) .left))
+
+pub mode-of-spec : {M : Type 1} → statement M
+mode-of-spec = tie.close (tie.spec returns returns-2)
