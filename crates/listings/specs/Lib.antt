@@ -1,5 +1,4 @@
--- A listing: its lines and its outcome; and the step that the programs repeat. Definitions only: the laws are in proofs/.
+-- A listing: its lines and its outcome. Definitions only: the laws are in proofs/.
 pub mod Lines
 pub mod Listings
 pub mod Places
-pub mod Stream

@@ -1,23 +1,14 @@
--- "A listing prints each record and a newline; a refused one prints `; refused N`."
+-- The lines of a listing: one for each frame, and those that no record has.
 -- Assumes nothing.
 use mathlib.Core.Bool.{Bool, cond}
 use mathlib.Core.List.{List, [], _∷_, _++_}
 use Prim.Native.Nat.{ℕ, zero, suc, _+_}
-use lib.Dec.{eqb}
 use lib.ListN.{length, drop}
 use Rattle.text.specs.Words.{bytes, empty}
-use Rattle.answers.specs.Refusals.{answerOf}
-use Rattle.answers.specs.Lines.{newline, refusedLine}
+use Rattle.answers.specs.Lines.{newline}
 use Rattle.frames.specs.Frames.{isWhole, bodyOf, frameSize, knownVersion}
 use Rattle.records.specs.declared.Asked.{Asked}
-use Rattle.records.specs.Records.{refusals, recordText}
-
--- a record's line by its answer: its text, or the refusal's number
-abbrev pub lineWith : ℕ → List ℕ → List ℕ
-lineWith answer text = cond (eqb answer 0) (text ++ newline) (refusedLine answer)
-
-unfoldable pub recordLine : Asked → List ℕ → List ℕ
-recordLine asked body = lineWith (answerOf (refusals asked body)) (recordText asked body)
+use Rattle.records.specs.Lines.{recordLine}
 
 -- "Missing bytes .. end it with `; cut`"; "A version byte other than 1 gives the single line `; version`"
 abbrev pub cutLine : List ℕ

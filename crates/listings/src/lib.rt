@@ -1,27 +1,9 @@
 // A listing: a version byte, then frames, each a record and its line.
 pub mod print;
-pub mod record_line;
-pub mod stream;
 pub mod walk;
 
 // The next place of the listing, and the next place of the text or the length of a line.
 pub struct Next {
     pub at: usize,
-    pub out: usize,
-}
-
-// How far a listing has come that arrives in parts: nothing yet, at a frame's start, in a body that is too long for any record
-// with so many bytes to come, or past a version byte that is not known.
-pub enum Stage {
-    Version,
-    Frames,
-    Skip(usize),
-    Done,
-}
-
-// One step of it: the stage then, how many bytes it used, and the next place of the text.
-pub struct Step {
-    pub stage: Stage,
-    pub used: usize,
     pub out: usize,
 }

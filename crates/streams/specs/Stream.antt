@@ -13,9 +13,10 @@ use Rattle.bodies.specs.Refusals.{longestBody}
 use Rattle.answers.specs.Lines.{refusedLine}
 use Rattle.answers.specs.Refusals.{length as lengthNumber}
 use Rattle.records.specs.declared.Asked.{Asked}
-use Rattle.listings.specs.Lines.{recordLine, cutLine, versionLine, linesOf, listingText}
-use Rattle.listings.specs.declared.Stage.{Stage}
-use Rattle.listings.specs.declared.Stage.the-variants.{Version, Frames, Skip, Done}
+use Rattle.records.specs.Lines.{recordLine}
+use Rattle.listings.specs.Lines.{cutLine, versionLine, linesOf, listingText}
+use Rattle.streams.specs.declared.Stage.{Stage}
+use Rattle.streams.specs.declared.Stage.the-variants.{Version, Frames, Skip, Done}
 
 -- what a step comes to: the stage then, how many bytes it used, and what it says
 pub record Taken : Type 0 where

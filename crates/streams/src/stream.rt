@@ -8,16 +8,16 @@ ghost use Rattle.names.specs.Opcodes.{MnemonicTable, ArmTable};
 ghost use Rattle.names.specs.Registers.{RegisterTable};
 ghost use Rattle.names.specs.Labels.{LabelTable};
 ghost use Rattle.lines.specs.Text.{longestLine};
-ghost use Rattle.listings.specs.Stream.{Took, versionStep, skipStep, frameStep, stepped, cutAt};
+ghost use Rattle.streams.specs.Stream.{Took, versionStep, skipStep, frameStep, stepped, cutAt};
 use crate::Stage;
 use crate::Step;
-use crate::record_line;
 use answers::LENGTH;
 use bodies::rules::LONGEST_BODY;
 use names::labels;
 use names::opcodes;
 use names::registers;
 use records::Asked;
+use records::put::put_record;
 
 fn step_version(input: &[u8], text: &mut [u8], out: usize) -> Step
     requires { ⌜ out + longestLine + 1 ≤ length (now text) ⌝ }
@@ -108,7 +108,7 @@ fn step_frame(
             out,
         };
     }
-    let next = record_line::put_record_line(
+    let placed = put_record(
         name_letters,
         name_starts,
         register_letters,
@@ -118,13 +118,14 @@ fn step_frame(
         arms,
         &input[2..end],
         asked,
+        false,
         text,
         out,
     );
     Step {
         stage: Stage::Frames,
         used: end,
-        out: next,
+        out: placed.out,
     }
 }
 

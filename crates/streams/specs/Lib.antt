@@ -1,0 +1,2 @@
+-- A listing that arrives in parts. Definitions only: the laws are in proofs/.
+pub mod Stream
