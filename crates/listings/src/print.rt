@@ -14,6 +14,7 @@ use answers::LENGTH;
 use answers::MODE;
 use answers::PRINTED;
 use answers::ROOM;
+use lines::LONGEST_LINE;
 use names::labels;
 use names::opcodes;
 use names::registers;
@@ -97,6 +98,7 @@ fn print_lines(
             text,
         );
     }
+    let mut aside = [0; LONGEST_LINE + 1];
     let needed = walk::lines_length(
         name_letters,
         name_starts,
@@ -107,6 +109,7 @@ fn print_lines(
         arms,
         listing,
         asked,
+        &mut aside,
     );
     if text.len() < needed {
         return Answer {

@@ -1,22 +1,22 @@
 // The lines of a listing's frames, one after the other.
 ghost use mathlib.Core.Path.{_≡_};
-ghost use Prim.Native.Nat.{_<_, _≤_};
+ghost use Prim.Native.Nat.{_+_, _<_, _≤_};
 ghost use lib.ListN.{length, drop};
 ghost use Rattle.text.specs.Write.{Room, Put};
 ghost use Rattle.names.specs.Opcodes.{MnemonicTable, ArmTable};
 ghost use Rattle.names.specs.Registers.{RegisterTable};
 ghost use Rattle.names.specs.Labels.{LabelTable};
+ghost use Rattle.lines.specs.Text.{longestLine};
 ghost use Rattle.listings.specs.Lines.{frontLine, linesOf};
 ghost use Rattle.listings.specs.Listings.{sizeLimit};
 ghost use Rattle.listings.specs.Places.{Stepped};
 use crate::Next;
-use crate::record_line;
 use frames::Frame;
-use lines::LONGEST_LINE;
 use names::labels;
 use names::opcodes;
 use names::registers;
 use records::Asked;
+use records::put::put_record;
 
 // The line of what stands at a place.
 pub fn put_next(
@@ -43,7 +43,7 @@ pub fn put_next(
 {
     match frames::frame_at(listing, at) {
         Frame::Whole { start, end } => {
-            let next = record_line::put_record_line(
+            let placed = put_record(
                 name_letters,
                 name_starts,
                 register_letters,
@@ -53,10 +53,14 @@ pub fn put_next(
                 arms,
                 &listing[start..end],
                 asked,
+                false,
                 text,
                 out,
             );
-            Next { at: end, out: next }
+            Next {
+                at: end,
+                out: placed.out,
+            }
         }
         Frame::Cut => {
             let next = text::put_bytes(text, out, b"; cut\n");
@@ -123,15 +127,16 @@ pub fn lines_length(
     arms: &opcodes::Arms,
     listing: &[u8],
     asked: Asked,
+    aside: &mut [u8],
 ) -> usize
     requires { ⌜ MnemonicTable (now «name_letters») (now «name_starts») ⌝ }
     requires { ⌜ RegisterTable (now «register_letters») (now «register_starts») ⌝ }
     requires { ⌜ LabelTable (now «label_letters») (now «label_starts») ⌝ }
     requires { ⌜ ArmTable (now arms) ⌝ }
     requires { ⌜ (1 ≤ length (now listing)) × (length (now listing) ≤ sizeLimit) ⌝ }
+    requires { ⌜ longestLine + 1 ≤ length (now aside) ⌝ }
     ensures { λ r. ⌜ r ≡ length (linesOf asked (drop 1 (now (listing .entry)))) ⌝ }
 {
-    let mut aside = [0; LONGEST_LINE + 1];
     let mut at = 1;
     let mut total = 0;
     while at < listing.len() {
@@ -146,7 +151,7 @@ pub fn lines_length(
             listing,
             at,
             asked,
-            &mut aside,
+            aside,
             0,
         );
         at = next.at;

@@ -3,3 +3,4 @@ pub mod Texts
 pub mod Unique
 pub mod InOrder
 pub mod PLines
+pub mod RecordLines

@@ -1,0 +1,5 @@
+pub mod Following
+pub mod Fronts
+pub mod Walking
+pub mod Outcomes
+pub mod Unique
