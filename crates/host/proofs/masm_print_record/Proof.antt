@@ -1,13 +1,14 @@
 -- `host::masm_print_record` meets its contract: the tables are as they must be, and the length fits its half.
 -- Assumes nothing.
-use mathlib.Core.Path.{refl, ap, _∙_}
+use mathlib.Core.Path.{refl}
 use native.Mathlib.Omega.{arith}
-use borrow.Author.Needs.{needs}
 use denote.Ref.{now}
+use Rattle.names.specs.Opcodes.{arms, opcodes}
+use Rattle.host.specs.Packed.{asked}
+use Rattle.host.proofs.Fitting.{record-fits}
+use borrow.Author.Needs.{needs}
 use Rattle.host.proofs.masm_print_record.Statement.{statement}
 use Rattle.host.proofs.masm_print_record.Tie as tie
-use Rattle.names.specs.Opcodes.{arms, opcodes}
-use Rattle.host.proofs.Fitting.{record-fits}
 
 letters-requires : tie.Need-letters-requires
 letters-requires c κs = search needs
@@ -21,21 +22,24 @@ letters-requires-2 c κs = search needs
 starts-requires-2 : tie.Need-starts-requires-2
 starts-requires-2 c κs = search needs
 
+letters-requires-3 : tie.Need-letters-requires-3
+letters-requires-3 c κs = search needs
+
+starts-requires-3 : tie.Need-starts-requires-3
+starts-requires-3 c κs = search needs
+
 print-record-requires : tie.Need-print-record-requires
 unfolding arms opcodes
-print-record-requires c κs = (
-  record { text = (c .before .before .before .before .before .before .before .before .before .letters .ensures); places = (c .before .before .before .before .before .before .before .before .starts .ensures) },
-  (record { text = (c .before .before .before .before .before .before .before .letters2 .ensures); places = (c .before .before .before .before .before .before .starts2 .ensures) }, refl),
-)
+print-record-requires c κs = (record { text = (c .before .before .before .before .before .before .before .before .before .before .before .before .before .letters) .ensures; places = (c .before .before .before .before .before .before .before .before .before .before .before .before .starts) .ensures }, (record { text = (c .before .before .before .before .before .before .before .before .before .before .before .letters2) .ensures; places = (c .before .before .before .before .before .before .before .before .before .before .starts2) .ensures }, (record { text = (c .before .before .before .before .before .before .before .before .before .letters3) .ensures; places = (c .before .before .before .before .before .before .before .before .starts3) .ensures }, refl)))
 
 pack-requires : tie.Need-pack-requires
-pack-requires c κs = omega (arith, (c .before .before .print-record .ensures .length), record-fits (c .before .before .before .before .before .before .before .before .before .before .before .before .before .before .before .args .mode) (now (c .before .before .before .before .before .before .before .before .before .before .before .before .before .before .before .args .body)) (now (c .before .before .before .before .before .before .before .before .before .before .before .before .before .before .before .args .text)))
+pack-requires c κs = omega (arith, (c .before .before .print-record) .ensures .length, record-fits (asked ((c .before .before .before .before .before .before .before .before .before .before .before .before .before .before .before .before .before .before .before .args) .mode)) (now ((c .before .before .before .before .before .before .before .before .before .before .before .before .before .before .before .before .before .before .before .args) .body)) (now ((c .before .before .before .before .before .before .before .before .before .before .before .before .before .before .before .before .before .before .before .args) .text)))
 
 same-length : tie.Need-same-length
 same-length c = search needs
 
 returns : tie.Need-returns
-returns c = record { number-is = rw ((c .before .before .before .print-record .ensures .answer), (c .before .before .before .print-record .ensures .length)) at (c .pack .ensures); buffer-is = (c .before .before .before .print-record .ensures .after) }
+returns c = search needs
 
 pub masm-print-record-spec : {M : Type 1} → statement M
 masm-print-record-spec =
@@ -45,6 +49,8 @@ masm-print-record-spec =
     starts-requires
     letters-requires-2
     starts-requires-2
+    letters-requires-3
+    starts-requires-3
     print-record-requires
     pack-requires
     same-length

@@ -39,8 +39,7 @@ loop-less c = let a = (c .before .before .before .before .before .before .before
 
 loop-again : tie.Need-loop-again Inv-loop μ-loop
 loop-again c = let a = (c .before .before .before .before .before .before .before .before .before .args) in
-    let x : Room ((c .before .before .before .before .before .before .loop) .aside) 0 (frontLine (a .asked) (drop ((c .before .before .before .before .before .before .loop) .at) (now (a .listing)))) = record { fits = omega (arith, front-most (a .asked) (drop ((c .before .before .before .before .before .before .loop) .at) (now (a .listing))), (c .before .before .before .before .before .before .loop) .inv .2, (c .before .before .before .before .before .before .before .before .before .pre) .1 .1 .1 .1 .1) } in
-    (
+    let x : Room ((c .before .before .before .before .before .before .loop) .aside) 0 (frontLine (a .asked) (drop ((c .before .before .before .before .before .before .loop) .at) (now (a .listing)))) = record { fits = omega (arith, front-most (a .asked) (drop ((c .before .before .before .before .before .before .loop) .at) (now (a .listing))), (c .before .before .before .before .before .before .loop) .inv .2, (c .before .before .before .before .before .before .before .before .before .pre) .1 .1 .1 .1 .1) } in (
       omega (arith, (c .before .before .before .put-next) .ensures .place, next-within (a .asked) (now (a .listing)) ((c .before .before .before .before .before .before .loop) .at) ((c .before .before .before .before .before .loop-test) .taken)),
       omega (arith, (c .before .before .before .before .before .before .loop) .inv .1, next-length (a .asked) (now (a .listing)) ((c .before .before .before .before .before .loop-test) .taken) ((c .before .before .before .put-next) .ensures)),
       put-length x ((c .before .before .before .put-next) .ensures .put) ∙ (c .before .before .before .before .before .before .loop) .inv .2,
