@@ -1,3 +1,0 @@
-pub mod Labelling
-pub mod Parts
-pub mod Short
