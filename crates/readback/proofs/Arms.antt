@@ -1,6 +1,6 @@
 -- Every operand that an arm shows of an accepted record is sound.
 -- Assumes nothing.
-use mathlib.Core.Path.{_≡_, sym, _∙_}
+use mathlib.Core.Path.{_≡_, refl, sym, _∙_}
 use mathlib.Core.Bool.{Bool, true, false, cond, not, _&&_, _||_, true≢false}
 use Prim.Native.Nat.{ℕ}
 use native.Mathlib.Omega.{arith}
@@ -18,8 +18,8 @@ use Rattle.arms.specs.Parts.{labelled, sizeLabel, immediateKind, immediateOf, n
 use Rattle.arms.specs.General.{generalLabel, general, generally, hasVector, laterWithoutDs}
 use Rattle.arms.specs.Rewritten.{isBranch, isXbegin, branch, lslSource, lsl, lssLabel, tbyteLabel, st, fadd, fbld}
 use Rattle.arms.specs.Shows.{itemsOf}
-use Rattle.names.specs.declared.Arm.{Arm}
-use Rattle.names.specs.declared.Arm.the-variants.{
+use Rattle.arms.specs.declared.Arm.{Arm}
+use Rattle.arms.specs.declared.Arm.the-variants.{
   General,
   Qword,
   Mmword,
@@ -58,9 +58,10 @@ use Rattle.names.specs.declared.Arm.the-variants.{
   Fbld,
   Fbstp,
 }
+use Rattle.arrange.specs.Among.{same}
 use Rattle.arrange.specs.Shape.{shapeRefused, lslRefused, noRegister}
 use Rattle.arrange.proofs.ByArm.{first-memory, at-lsl, at-lss, at-lods}
-use Rattle.readback.specs.Sound.{Named, SoundItem}
+use Rattle.readback.proofs.Sound.{Named, SoundItem}
 use Rattle.readback.proofs.Kept.{
   sound-nothing,
   sound-named,
@@ -76,27 +77,27 @@ use Rattle.readback.proofs.Kept.{
 
 -- ---- Four items
 
-pub record SoundItems (x : Items) : Type 0 where
-  pub a : SoundItem (x .a)
-  pub b : SoundItem (x .b)
-  pub c : SoundItem (x .c)
-  pub d : SoundItem (x .d)
+pub record SoundItems (branches : Bool) (x : Items) : Type 0 where
+  pub a : SoundItem branches (x .a)
+  pub b : SoundItem branches (x .b)
+  pub c : SoundItem branches (x .c)
+  pub d : SoundItem branches (x .d)
 
-three-sound : {x y z : Item} → SoundItem x → SoundItem y → SoundItem z → SoundItems (three x y z)
+three-sound : {k : Bool} {x y z : Item} → SoundItem k x → SoundItem k y → SoundItem k z → SoundItems k (three x y z)
 three-sound s t u = record { a = s; b = t; c = u; d = sound-nothing }
 
-two-sound : {x y : Item} → SoundItem x → SoundItem y → SoundItems (two x y)
+two-sound : {k : Bool} {x y : Item} → SoundItem k x → SoundItem k y → SoundItems k (two x y)
 two-sound s t = three-sound s t sound-nothing
 
-one-sound : {x : Item} → SoundItem x → SoundItems (one x)
+one-sound : {k : Bool} {x : Item} → SoundItem k x → SoundItems k (one x)
 one-sound s = two-sound s sound-nothing
 
-none-sound : SoundItems none
+none-sound : {k : Bool} → SoundItems k none
 none-sound = one-sound sound-nothing
 
 -- either side of an arm's test
-either-sound : {x y : Items} (p : Bool) → (p ≡ true → SoundItems x) → (p ≡ false → SoundItems y) → SoundItems (cond p x y)
-either-sound {x} {y} p f g = picked SoundItems p x y f g
+either-sound : {k : Bool} {x y : Items} (p : Bool) → (p ≡ true → SoundItems k x) → (p ≡ false → SoundItems k y) → SoundItems k (cond p x y)
+either-sound {k} {x} {y} p f g = picked (SoundItems k) p x y f g
 
 -- the registers that arms show by themselves
 eax : Named 0
@@ -113,7 +114,7 @@ xmm0 = record { below = omega arith; not-30 = λ e. omega arith; not-31 = λ e. 
 
 -- ---- Arms with a form of their own
 
-general-sound : (mmword first later : Bool) (i : Instruction) → WellFormed i → SoundItems (general mmword first later i)
+general-sound : {k : Bool} (mmword first later : Bool) (i : Instruction) → WellFormed i → SoundItems k (general mmword first later i)
 unfolding general
 general-sound mmword first later i w =
     record {
@@ -123,7 +124,7 @@ general-sound mmword first later i w =
       d = sound-labelled-memory (generalLabel mmword later (i .size)) (i .d) (w .d);
     }
 
-without-ds-sound : (x : Items) → SoundItems x → SoundItems (laterWithoutDs x)
+without-ds-sound : {k : Bool} (x : Items) → SoundItems k x → SoundItems k (laterWithoutDs x)
 without-ds-sound x s =
     record {
       a = s .a;
@@ -132,7 +133,7 @@ without-ds-sound x s =
       d = sound-without-ds (x .d) (s .d);
     }
 
-branch-sound : (straight : Bool) (i : Instruction) → WellFormed i → SoundItems (branch straight (i .length) (i .a))
+branch-sound : (straight : Bool) (i : Instruction) → WellFormed i → SoundItems true (branch straight (i .length) (i .a))
 branch-sound straight i w = one-sound (sound-branch straight (immediateKind (i .a)) (immediateOf (i .a)) (i .length) (w .length-most))
 
 -- LSL of two registers is refused where the rewritten source is none
@@ -141,22 +142,22 @@ source-there true true r h e = h
 source-there true false r h e = absurd (true≢false (sym e))
 source-there false q r h e = absurd (true≢false h)
 
-lsl-sound : (i : Instruction) → WellFormed i → lslRefused (i .a) (i .b) ≡ false → (isRegister (i .a) && isRegister (i .b)) ≡ true
-    → SoundItems (lsl (i .a) (i .b))
+lsl-sound : {k : Bool} (i : Instruction) → WellFormed i → lslRefused (i .a) (i .b) ≡ false → (isRegister (i .a) && isRegister (i .b)) ≡ true
+    → SoundItems k (lsl (i .a) (i .b))
 lsl-sound i w h e =
     let r = source-there (isRegister (i .a)) (isRegister (i .b)) (noRegister (lslSource (i .a) (i .b))) h e in
     two-sound (sound-plain (i .a) (w .a)) (sound-named (source-named r))
 
-fadd-sound : (size : ℕ) (a b : Operand) → Kept a → Kept b → SoundItems (fadd size a b)
+fadd-sound : {n : Bool} (size : ℕ) (a b : Operand) → Kept a → Kept b → SoundItems n (fadd size a b)
 fadd-sound size a b k l =
     either-sound (isMemory b) (λ e. one-sound (sound-labelled (sizeLabel size) b l e))
     (λ e.
     either-sound (isRegisterR a) (λ f. two-sound (sound-st a k) (sound-plain b l)) (λ f. two-sound (sound-plain a k) (sound-st b l)))
 
-fbld-sound : (size : ℕ) (b : Operand) → Kept b → SoundItems (fbld size b)
-fbld-sound size b k =
+fbld-sound : {n : Bool} (size : ℕ) (b : Operand) → Kept b → SoundItems n (fbld size b)
+fbld-sound {n} size b k =
     one-sound
-    (picked SoundItem (isMemory b) (labelled (tbyteLabel size) b) (st b) (λ e. sound-labelled (tbyteLabel size) b k e) (λ e. sound-st b k))
+    (picked (SoundItem n) (isMemory b) (labelled (tbyteLabel size) b) (st b) (λ e. sound-labelled (tbyteLabel size) b k e) (λ e. sound-st b k))
 
 -- operands that have to be memory
 module _ (i : Instruction) where
@@ -174,7 +175,15 @@ module _ (i : Instruction) where
 
 -- ---- All arms
 
-pub items-sound : (straight : Bool) (arm : Arm) (i : Instruction) → WellFormed i → shapeRefused arm i ≡ false → SoundItems (itemsOf straight arm i)
+-- the arm shows a branch of this record
+abbrev pub branches : Arm → Instruction → Bool
+branches arm i = (same arm Branch && isBranch (i .a)) || (same arm Xbegin && isXbegin (i .a))
+
+either-side : (p : Bool) → (p || false) ≡ p
+either-side true = refl
+either-side false = refl
+
+pub items-sound : (straight : Bool) (arm : Arm) (i : Instruction) → WellFormed i → shapeRefused arm i ≡ false → SoundItems (branches arm i) (itemsOf straight arm i)
 unfolding itemsOf
 items-sound straight General i w s = general-sound (hasVector i) false false i w
 items-sound straight Qword i w s = general-sound false false false i w
@@ -184,8 +193,8 @@ items-sound straight Callf i w s = general-sound (hasVector i) true false i w
 items-sound straight Lds i w s = general-sound (hasVector i) false true i w
 items-sound straight Movs i w s = without-ds-sound (generally i) (general-sound (hasVector i) false false i w)
 items-sound straight Cmps i w s = general-sound (hasVector i) false false i w
-items-sound straight Branch i w s = either-sound (isBranch (i .a)) (λ e. branch-sound straight i w) (λ e. general-sound (hasVector i) false false i w)
-items-sound straight Xbegin i w s = either-sound (isXbegin (i .a)) (λ e. branch-sound straight i w) (λ e. general-sound (hasVector i) false false i w)
+items-sound straight Branch i w s = either-sound (isBranch (i .a)) (λ e. rw (either-side (isBranch (i .a)), e) (branch-sound straight i w)) (λ e. general-sound (hasVector i) false false i w)
+items-sound straight Xbegin i w s = either-sound (isXbegin (i .a)) (λ e. rw e (branch-sound straight i w)) (λ e. general-sound (hasVector i) false false i w)
 items-sound straight Feni i w s = none-sound
 items-sound straight Fdisi i w s = none-sound
 items-sound straight Fsetpm i w s = none-sound

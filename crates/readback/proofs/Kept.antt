@@ -23,18 +23,18 @@ use Rattle.arms.specs.Parts.{shownOf, segmentOf, item, bare, plain, labelled, l
 use Rattle.arms.specs.General.{withoutDs}
 use Rattle.arms.specs.Rewritten.{isSt0, st}
 use Rattle.arrange.specs.Shape.{noRegister}
-use Rattle.readback.specs.Sound.{Named, SoundShown, isAddress, SoundItem}
+use Rattle.readback.proofs.Sound.{Named, SoundShown, isAddress, isBranchShown, SoundItem}
 
 -- ---- What has neither label nor segment
 
-sound-bare : (x : Shown) → SoundShown x → SoundItem (bare x)
-sound-bare x s = record { shown = s; segment = omega arith; bare = λ e. (refl, refl) }
+sound-bare : {k : Bool} (x : Shown) → SoundShown x → isBranchShown x ≡ false → SoundItem k (bare x)
+sound-bare x s n = record { shown = s; segment = omega arith; bare = λ e. (refl, refl); branch = λ e. absurd (true≢false (sym e ∙ n)) }
 
-pub sound-nothing : SoundItem nothing
-sound-nothing = sound-bare shown.Nothing tt
+pub sound-nothing : {k : Bool} → SoundItem k nothing
+sound-nothing = sound-bare shown.Nothing tt refl
 
-pub sound-named : {r : ℕ} → Named r → SoundItem (named r)
-sound-named {r} n = sound-bare (shown.Name r) n
+pub sound-named : {k : Bool} {r : ℕ} → Named r → SoundItem k (named r)
+sound-named {r = r} n = sound-bare (shown.Name r) n refl
 
 -- the operand itself
 sound-operand : (o : Operand) → Kept o → SoundShown (shownOf o)
@@ -45,12 +45,23 @@ sound-operand (Absolute16 segment address) k = k .1
 sound-operand (Absolute32 segment address) k = k .1
 sound-operand (Memory segment address) k = k .1
 
-pub sound-plain : (o : Operand) → Kept o → SoundItem (plain o)
-sound-plain o k = sound-bare (shownOf o) (sound-operand o k)
+-- which is no branch
+no-branch : (o : Operand) → isBranchShown (shownOf o) ≡ false
+no-branch Absent = refl
+no-branch (Register place reg) = refl
+no-branch (Imm kind value) = refl
+no-branch (Absolute16 segment address) = refl
+no-branch (Absolute32 segment address) = refl
+no-branch (Memory segment address) = refl
+
+pub sound-plain : {b : Bool} (o : Operand) → Kept o → SoundItem b (plain o)
+sound-plain o k = sound-bare (shownOf o) (sound-operand o k) (no-branch o)
 
 -- `st` for st(0)
-pub sound-st : (o : Operand) → Kept o → SoundItem (st o)
-sound-st o k = sound-bare (cond (isSt0 o) shown.St (shownOf o)) (picked SoundShown (isSt0 o) shown.St (shownOf o) (λ e. tt) (λ e. sound-operand o k))
+pub sound-st : {b : Bool} (o : Operand) → Kept o → SoundItem b (st o)
+sound-st o k =
+    sound-bare (cond (isSt0 o) shown.St (shownOf o)) (picked SoundShown (isSt0 o) shown.St (shownOf o) (λ e. tt) (λ e. sound-operand o k))
+    (picked (λ x. isBranchShown x ≡ false) (isSt0 o) shown.St (shownOf o) (λ e. refl) (λ e. no-branch o))
 
 -- ---- Memory with a label
 
@@ -70,28 +81,34 @@ segment-few (Absolute16 segment address) k = k .0
 segment-few (Absolute32 segment address) k = k .0
 segment-few (Memory segment address) k = k .0
 
-module _ (l : Label) (o : Operand) (k : Kept o) where
-  sound-memory : isMemory o ≡ true → (s : ℕ) → s ≤ 6 → SoundItem (item l s (shownOf o))
+module _ {b : Bool} (l : Label) (o : Operand) (k : Kept o) where
+  sound-memory : isMemory o ≡ true → (s : ℕ) → s ≤ 6 → SoundItem b (item l s (shownOf o))
   sound-memory m s few =
-      record { shown = sound-operand o k; segment = few; bare = λ e. absurd (true≢false (sym m ∙ sym (address-shown o) ∙ e)) }
+      record {
+        shown = sound-operand o k;
+        segment = few;
+        bare = λ e. absurd (true≢false (sym m ∙ sym (address-shown o) ∙ e));
+        branch = λ e. absurd (true≢false (sym e ∙ no-branch o));
+      }
 
   -- with a label and no segment, and with its own segment
-  pub sound-unsegmented : isMemory o ≡ true → SoundItem (item l 0 (shownOf o))
+  pub sound-unsegmented : isMemory o ≡ true → SoundItem b (item l 0 (shownOf o))
   sound-unsegmented m = sound-memory m 0 (omega arith)
 
-  pub sound-labelled : isMemory o ≡ true → SoundItem (labelled l o)
+  pub sound-labelled : isMemory o ≡ true → SoundItem b (labelled l o)
   sound-labelled m = sound-memory m (segmentOf o) (segment-few o k)
 
-  pub sound-labelled-memory : SoundItem (labelledMemory l o)
-  sound-labelled-memory = picked SoundItem (isMemory o) (labelled l o) (plain o) (λ e. sound-labelled e) (λ e. sound-plain o k)
+  pub sound-labelled-memory : SoundItem b (labelledMemory l o)
+  sound-labelled-memory = picked (SoundItem b) (isMemory o) (labelled l o) (plain o) (λ e. sound-labelled e) (λ e. sound-plain o k)
 
 -- MOVS drops ds
-pub sound-without-ds : (x : Item) → SoundItem x → SoundItem (withoutDs x)
+pub sound-without-ds : {b : Bool} (x : Item) → SoundItem b x → SoundItem b (withoutDs x)
 sound-without-ds x s =
     record {
       shown = s .shown;
       segment = picked (λ n. n ≤ 6) (eqb (x .segment) 4) 0 (x .segment) (λ e. omega arith) (λ e. s .segment);
       bare = λ e. (s .bare e .0, picked (λ n. n ≡ 0) (eqb (x .segment) 4) 0 (x .segment) (λ e. refl) (λ k. s .bare e .1));
+      branch = s .branch;
     }
 
 -- ---- LSL's rewritten source
@@ -130,6 +147,7 @@ size-fits straight kind value length l =
     (λ f. omega (arith, fits-signed (2 ^ 7) (signed 8 (value + length)) (signed-within 8 refl (lit< tt) (value + length)))))
     (λ e. omega (arith, wide (value + length)))
 
-pub sound-branch : (straight : Bool) (kind value length : ℕ) → length ≤ 15 → SoundItem (bare (branchShown straight kind value length))
+pub sound-branch : (straight : Bool) (kind value length : ℕ) → length ≤ 15 → SoundItem true (bare (branchShown straight kind value length))
 unfolding branchShown
-sound-branch straight kind value length l = sound-bare (branchShown straight kind value length) (size-fits straight kind value length l)
+sound-branch straight kind value length l =
+    record { shown = size-fits straight kind value length l; segment = omega arith; bare = λ e. (refl, refl); branch = λ e. refl }

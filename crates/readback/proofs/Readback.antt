@@ -3,9 +3,9 @@
 use mathlib.Core.Path.{_≡_, refl, ap}
 use mathlib.Core.Bool.{Bool, true, false, not, _||_}
 use mathlib.Core.List.{List}
-use mathlib.Core.Option.{some}
 use Prim.Native.Nat.{ℕ, _<_}
 use native.Mathlib.Omega.{arith}
+use lib.Dec.{T}
 use Rattle.operands.specs.Kinds.{isAbsent}
 use Rattle.operands.specs.declared.Instruction.{Instruction}
 use Rattle.bodies.specs.Refusals.{lengthRefused, fieldRefused}
@@ -13,9 +13,9 @@ use Rattle.bodies.specs.Decoding.{instructionOf, decoded}
 use Rattle.bodies.specs.WellFormed.{Bytes, WellFormed}
 use Rattle.bodies.proofs.Picks.{picked}
 use Rattle.bodies.proofs.Accepted.{record-kept}
-use Rattle.names.specs.Opcodes.{armOf}
-use Rattle.names.specs.declared.Arm.{Arm}
-use Rattle.names.specs.declared.Arm.the-variants.{Jmpf, Callf, Feni as FeniArm, Fdisi as FdisiArm, Fsetpm as FsetpmArm}
+use Rattle.arms.specs.Arms.{armOf}
+use Rattle.arms.specs.declared.Arm.{Arm}
+use Rattle.arms.specs.declared.Arm.the-variants.{Jmpf, Callf, Feni as FeniArm, Fdisi as FdisiArm, Fsetpm as FsetpmArm}
 use Rattle.arrange.specs.Among.{same}
 use Rattle.arrange.specs.Head.{nameOf, headOf}
 use Rattle.arrange.specs.Shape.{shapeRefused}
@@ -27,12 +27,14 @@ use Rattle.arrange.specs.declared.Arranged.the-variants.{Shown}
 use Rattle.arrange.specs.declared.Name.the-variants.{Opcode, Feni, Fdisi, Fsetpm}
 use Rattle.arrange.proofs.Arranging.{accepted, labelled, ordered}
 use Rattle.lines.specs.Text.{lineText}
-use Rattle.masm.specs.Lines.{read}
+use Rattle.masm.specs.Lines.{shows, read}
+use Rattle.masm.proofs.Tokens.{unbroken}
+use Rattle.masm.proofs.Texts.{line-unbroken}
 use Rattle.readback.specs.Meaning.{meaning}
 use Rattle.readback.specs.Printed.{Printed}
-use Rattle.readback.specs.Sound.{SoundName, Sound}
-use Rattle.readback.proofs.Lines.{reads}
-use Rattle.readback.proofs.Arms.{items-sound}
+use Rattle.readback.proofs.Sound.{SoundName, Sound}
+use Rattle.readback.proofs.Lines.{sound-line, reads}
+use Rattle.readback.proofs.Arms.{branches, items-sound}
 
 -- ---- Every printed line is sound
 
@@ -46,7 +48,7 @@ name-sound arm opcode h =
     picked SoundName (same arm FeniArm) Feni _ (λ e. tt)
     (λ e. picked SoundName (same arm FdisiArm) Fdisi _ (λ e. tt) (λ e. picked SoundName (same arm FsetpmArm) Fsetpm (Opcode opcode) (λ e. tt) (λ e. h)))))
 
--- no operand of an accepted record stands behind an absent one
+-- no operand of an accepted record stands after an absent one
 implication : (p q : Bool) → (p ≡ true → q ≡ true) → (not p || q) ≡ true
 implication true q f = f refl
 implication false q f = refl
@@ -60,7 +62,7 @@ counted-from-left i w =
     )
 
 module _ (straight : Bool) (i : Instruction) (l : Line) (w : WellFormed i) (e : arranged straight i ≡ Shown l) where
-  line-sound : Sound (lineOf straight (armOf (i .opcode)) i)
+  line-sound : Sound (branches (armOf (i .opcode)) i) (lineOf straight (armOf (i .opcode)) i)
   unfolding headOf
   line-sound =
       let arm = armOf (i .opcode) in
@@ -76,7 +78,7 @@ module _ (straight : Bool) (i : Instruction) (l : Line) (w : WellFormed i) (e : 
         ordered = rw (a .is-line) at (ordered straight arm i l e (counted-from-left i w));
       }
 
-  pub sound : Sound l
+  pub sound : Sound (branches (armOf (i .opcode)) i) l
   sound = rw (accepted straight (armOf (i .opcode)) i l e .is-line) line-sound
 
 -- ---- The bodies that are printed
@@ -95,9 +97,14 @@ unrefused-printed straight bytes no-length no-field no-shape no-size =
 -- Of every accepted body, in both modes and from every start, the reader yields exactly what the line shows: prefix words, mnemonic, and
 -- for each shown operand its label, segment, multiple of each register, displacement, immediate, or branch.
 pub reads-back : {body : List ℕ} {straight : Bool} {i : Instruction} {l : Line} → Printed body straight i l → (start : ℕ)
-    → read start (lineText l) ≡ some (meaning start l)
+    → read start (lineText l) ≡ shows (meaning start l)
 reads-back {body} {straight} {i} {l} p start =
     reads start l (sound straight i l (record-kept body i (p .bytes) (p .recorded)) (p .arranges))
+
+-- Every printed line is one line of text: it holds no newline.
+pub one-line : {body : List ℕ} {straight : Bool} {i : Instruction} {l : Line} → Printed body straight i l → T (unbroken (lineText l))
+one-line {body} {straight} {i} {l} p =
+    line-unbroken (sound-line 0 l (sound straight i l (record-kept body i (p .bytes) (p .recorded)) (p .arranges)))
 
 -- The text determines what is shown: two accepted bodies, in whatever modes, whose lines are equal show the same.
 pub text-determines : {body₁ body₂ : List ℕ} {straight₁ straight₂ : Bool} {i₁ i₂ : Instruction} {l₁ l₂ : Line}

@@ -8,7 +8,7 @@ use lib.Dec.{ltb, eqb}
 use lib.IntN.{ℤ, pos, negsuc, negℤ, _+ℤ_}
 use Rattle.text.specs.Choice.{when}
 use Rattle.text.specs.Words.{bytes}
-use Rattle.names.specs.Opcodes.{mnemonic}
+use Rattle.names.specs.Mnemonics.{mnemonic}
 use Rattle.operands.specs.declared.Address.{Address}
 use Rattle.operands.specs.declared.Label.{Label}
 use Rattle.operands.specs.declared.Label.the-variants as label
@@ -20,7 +20,8 @@ use Rattle.arrange.specs.declared.Line.{Line}
 use Rattle.arrange.specs.declared.Name.{Name as Mnemonic}
 use Rattle.arrange.specs.declared.Name.the-variants.{Opcode, Feni, Fdisi, Fsetpm}
 use Rattle.masm.specs.Operands as masm
-use Rattle.masm.specs.Operands.{Operand, Register, register, immediate, branch, address}
+use Rattle.masm.specs.Expressions.{Register}
+use Rattle.masm.specs.Operands.{Operand, Width, Near, register, immediate, branch, address}
 use Rattle.masm.specs.Lines.{Line as Read, Prefix, Xacquire, Xrelease, Lock, Rep, Repne}
 
 -- ---- The head
@@ -42,7 +43,7 @@ nameOf Feni = bytes "feni"
 nameOf Fdisi = bytes "fdisi"
 nameOf Fsetpm = bytes "fsetpm"
 
--- and a `d` behind them where the line has it
+-- and a `d` after them where the line has it
 abbrev pub mnemonicOf : Head → List ℕ
 mnemonicOf h = nameOf (h .name) ++ when (h .suffix) (bytes "d")
 
@@ -60,19 +61,23 @@ bySign minus size = cond minus (negℤ (pos size)) (pos size)
 -- ---- Operands
 
 -- a label as the reader names it; `Missing` stands in no line that is printed
-abbrev pub labelOf : Label → masm.Label
-labelOf label.None = masm.Unlabelled
-labelOf label.Byte = masm.Byte
-labelOf label.Word = masm.Word
-labelOf label.Dword = masm.Dword
-labelOf label.Qword = masm.Qword
-labelOf label.Xmmword = masm.Xmmword
-labelOf label.Ymmword = masm.Ymmword
-labelOf label.Zmmword = masm.Zmmword
-labelOf label.Mmword = masm.Mmword
-labelOf label.Fword = masm.Fword
-labelOf label.Tbyte = masm.Tbyte
-labelOf label.Missing = masm.Unlabelled
+abbrev pub labelOf : Label → Option masm.Label
+labelOf label.None = none
+labelOf label.Byte = some masm.Byte
+labelOf label.Word = some masm.Word
+labelOf label.Dword = some masm.Dword
+labelOf label.Qword = some masm.Qword
+labelOf label.Xmmword = some masm.Xmmword
+labelOf label.Ymmword = some masm.Ymmword
+labelOf label.Zmmword = some masm.Zmmword
+labelOf label.Mmword = some masm.Mmword
+labelOf label.Fword = some masm.Fword
+labelOf label.Tbyte = some masm.Tbyte
+labelOf label.Missing = none
+
+-- `near ptr`, or nothing
+abbrev pub widthOf : (near : Bool) → Option Width
+widthOf near = cond near (some Near) none
 
 -- segments 1 to 6 are es cs ss ds fs gs, the registers from 24 on
 abbrev pub segmentOf : ℕ → Option Register
@@ -87,7 +92,7 @@ abbrev pub addedOf : Address → ℤ
 addedOf a = cond (a .displaced) (a .disp) (pos 0)
 
 -- what an operand of a line shows, or nothing: a register by its byte (`st` is st(0), 32), an immediate, an address, or a branch to
--- the sum of the start and the signed number behind `$`. An absolute is an address that counts no register.
+-- the sum of the start and the signed number after `$`. An absolute is an address that counts no register.
 abbrev pub operandOf : (start : ℕ) (label : Label) (segment : ℕ) → Shown → List Operand
 operandOf start label segment Nothing = []
 operandOf start label segment (Name reg) = register reg ∷ []
@@ -96,7 +101,7 @@ operandOf start label segment (Number value) = immediate (value % 2 ^ 32) ∷ []
 operandOf start label segment (Word value) = address (labelOf label) (segmentOf segment) (λ r. 0) (value % 2 ^ 32) ∷ []
 operandOf start label segment (Dword value) = address (labelOf label) (segmentOf segment) (λ r. 0) (value % 2 ^ 32) ∷ []
 operandOf start label segment (Bracket a) = address (labelOf label) (segmentOf segment) (timesOf a) (modulo (addedOf a)) ∷ []
-operandOf start label segment (Branch near minus size) = branch near (modulo (pos start +ℤ bySign minus size)) ∷ []
+operandOf start label segment (Branch near minus size) = branch (widthOf near) (modulo (pos start +ℤ bySign minus size)) ∷ []
 
 -- an operand of a line with its label and segment
 abbrev pub itemOf : (start : ℕ) → Item → List Operand

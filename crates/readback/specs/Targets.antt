@@ -1,18 +1,19 @@
 -- Where a branch record goes, and what it means that a text branches there.
 -- Assumes nothing.
-use mathlib.Core.Bool.{Bool}
+use mathlib.Core.Bool.{Bool, true, false, cond, _&&_, _||_}
 use mathlib.Core.List.{List, [], _∷_}
 use mathlib.Core.Logic.{_⊎_}
-use mathlib.Core.Option.{some}
+use mathlib.Core.Option.{Option}
 use mathlib.Core.Path.{_≡_}
-use Prim.Native.Nat.{ℕ, suc, _≤_, _<_}
+use Prim.Native.Nat.{ℕ, suc, _+_, _≤_, _<_}
+use lib.Dec.{eqb}
 use lib.IntN.{ℤ, pos, negsuc, _+ℤ_}
 use Rattle.operands.specs.declared.Instruction.{Instruction}
-use Rattle.branches.specs.Sums.{signed}
+use Rattle.branches.specs.Sums.{signed, from128to255}
 use Rattle.arms.specs.Parts.{immediateKind, immediateOf}
-use Rattle.masm.specs.Operands.{branch}
-use Rattle.masm.specs.Lines.{Line as Read, read}
-use Rattle.readback.specs.Meaning.{modulo}
+use Rattle.masm.specs.Operands.{Width, Operand, register, immediate, branch, address}
+use Rattle.masm.specs.Lines.{Line as Read, shows, read}
+use Rattle.readback.specs.Meaning.{modulo, widthOf}
 
 -- "Relative branches with kind 3 or 5 as operand 0, and XBEGIN with kind 5": JMP to JG are the opcodes below 22, and XBEGIN is 22
 pub data BranchRecord (i : Instruction) : Type 0 where
@@ -27,12 +28,35 @@ distanceOf i = signed 32 (immediateOf (i .a))
 abbrev pub targetOf : (start : ℕ) → Instruction → ℕ
 targetOf start i = modulo (pos start +ℤ pos (i .length) +ℤ distanceOf i)
 
--- MASM's reader takes the text for an instruction with one operand, a branch to the target
-pub record BranchesTo (start : ℕ) (text : List ℕ) (target : ℕ) : Type 0 where
+-- what a branch record's line has before `$`: "Kind 5 with a sum of 128 to 255 gets `near ptr ` in front", in both modes
+abbrev pub beforeDollar : Instruction → Option Width
+beforeDollar i = widthOf (eqb (immediateKind (i .a)) 5 && from128to255 (signed 32 (immediateOf (i .a) + i .length)))
+
+-- MASM's reader takes the text for an instruction with one operand, a branch to the target; `width` is what stands before `$`
+pub record BranchesTo (start : ℕ) (text : List ℕ) (width : Option Width) (target : ℕ) : Type 0 where
   pub line : Read
-  pub reads : read start text ≡ some line
-  pub near : Bool
-  pub operand : line .operands ≡ branch near target ∷ []
+  pub reads : read start text ≡ shows line
+  pub operand : line .operands ≡ branch width target ∷ []
+
+abbrev pub isTarget : Operand → Bool
+isTarget (register r) = false
+isTarget (immediate n) = false
+isTarget (branch width target) = true
+isTarget (address label segment times disp) = false
+
+abbrev pub anyTarget : List Operand → Bool
+anyTarget [] = false
+anyTarget (o ∷ os) = isTarget o || anyTarget os
+
+-- MASM's reader takes the text for an instruction with a branch among its operands
+pub record ShowsBranch (start : ℕ) (text : List ℕ) : Type 0 where
+  pub line : Read
+  pub reads : read start text ≡ shows line
+  pub target : anyTarget (line .operands) ≡ true
+
+-- "Mode 0 is the crate's: the sum wraps in the width of the distance", 8 bits for kind 3 and 32 for kind 5
+abbrev pub mode0Sum : Instruction → ℤ
+mode0Sum i = signed (cond (eqb (immediateKind (i .a)) 3) 8 32) (immediateOf (i .a) + i .length)
 
 -- from -128 to 127
 abbrev pub FitsByte : ℤ → Type 0

@@ -1,0 +1,51 @@
+-- What the lines of a listing show, frame by frame, and a text cut at its newlines.
+-- Assumes nothing.
+use mathlib.Core.Bool.{cond}
+use mathlib.Core.List.{List, [], _∷_}
+use mathlib.Core.Option.{Option, none, some}
+use Prim.Native.Nat.{ℕ, zero, suc}
+use lib.Dec.{eqb}
+use lib.ListN.{length, drop}
+use Rattle.text.specs.Words.{empty}
+use Rattle.arrange.specs.declared.Line.{Line}
+use Rattle.records.specs.Answers.{lowest}
+use Rattle.records.specs.Records.{refusals, lineAt}
+use Rattle.listings.specs.Frames.{isWhole, bodyOf, frameSize}
+use Rattle.masm.specs.Lines.{Reading, shows, no-instruction}
+use Rattle.readback.specs.Meaning.{meaning}
+
+-- ---- Lines of a text
+
+abbrev pub onFirst : ℕ → List (List ℕ) → List (List ℕ)
+onFirst c [] = (c ∷ []) ∷ []
+onFirst c (l ∷ ls) = (c ∷ l) ∷ ls
+
+-- A newline ends a line. What stands after the last newline is a line too, if it is not empty.
+abbrev pub linesIn : List ℕ → List (List ℕ)
+linesIn [] = []
+linesIn (c ∷ t) = cond (eqb c 10) ([] ∷ linesIn t) (onFirst c (linesIn t))
+
+-- ---- What each line shows: a record's line, or nothing, where it is a comment
+
+-- a record that none of answers 1 to 5 refuses shows its line; of any other, `; refused N` shows nothing
+abbrev pub recordShows : (mode : ℕ) (body : List ℕ) → Option Line
+recordShows mode body = cond (eqb (lowest 1 (refusals mode body [])) 0) (some (lineAt mode body)) none
+
+-- what stands in front: a whole frame's record; `; cut` shows nothing
+abbrev pub frontShows : (mode : ℕ) (xs : List ℕ) → Option Line
+frontShows mode xs = cond (isWhole xs) (recordShows mode (bodyOf xs)) none
+
+-- at most k frames, one after the other to the end
+abbrev pub showsWithin : (k mode : ℕ) (xs : List ℕ) → List (Option Line)
+showsWithin zero mode xs = []
+showsWithin (suc k) mode xs = cond (empty xs) [] (frontShows mode xs ∷ showsWithin k mode (drop (frameSize xs) xs))
+
+-- a listing: one entry for each frame; `; cut` of an empty listing, and `; version`, show nothing
+abbrev pub listingShows : (mode : ℕ) (listing : List ℕ) → List (Option Line)
+listingShows mode [] = none ∷ []
+listingShows mode (version ∷ xs) = cond (eqb version 1) (showsWithin (length xs) mode xs) (none ∷ [])
+
+-- how a line is read that shows this
+abbrev pub readingOf : (start : ℕ) → Option Line → Reading
+readingOf start none = no-instruction
+readingOf start (some l) = shows (meaning start l)
