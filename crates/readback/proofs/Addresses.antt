@@ -17,7 +17,7 @@ use Rattle.numerals.specs.Digits.{digit, digits}
 use Rattle.numerals.specs.Numerals.{displacement}
 use Rattle.names.specs.Registers.{registerName}
 use Rattle.operands.specs.declared.Address.{Address}
-use Rattle.items.specs.Brackets.{baseText, scaleText, indexedText, indexText, tailText, bracketText}
+use Rattle.lines.specs.Brackets.{baseText, scaleText, indexedText, indexText, tailText, bracketText}
 use Rattle.bodies.specs.WellFormed.{ScaleKept, AddressKept}
 use Rattle.masm.specs.Tokens.{tokens}
 use Rattle.masm.specs.Expressions.{numeral, Register, Value, constant, multiple, plus}

@@ -10,9 +10,3 @@ pub mod Kept
 pub mod Arms
 pub mod Sums
 pub mod Readback
-pub mod Branching
-pub mod Exactly
-pub mod Counterexample
-pub mod Records
-pub mod Listings
-pub mod Readings

@@ -10,18 +10,16 @@ use Rattle.operands.specs.declared.Shown.{Shown}
 use Rattle.operands.specs.declared.Shown.the-variants.{Nothing, Name, St, Number, Word, Dword, Bracket, Branch}
 use Rattle.operands.specs.declared.Item.{Item}
 use Rattle.operands.specs.declared.Items.{Items}
-use Rattle.items.specs.Items.{itemText}
-use Rattle.lines.specs.Text.{prefixesText, nameText, headText, shows as isShown, partedText, itemsText, lineText}
-use Rattle.arrange.specs.Size.{isMissing, lacksLabel}
-use Rattle.arrange.specs.Order.{isNothing, fromTheLeft}
-use Rattle.arrange.specs.declared.Head.{Head}
-use Rattle.arrange.specs.declared.Line.{Line}
+use Rattle.lines.specs.Items.{itemText}
+use Rattle.lines.specs.Text.{repsText, prefixesText, nameText, headText, shows as isShown, partedText, itemsText, lineText}
+use Rattle.lines.specs.declared.Head.{Head}
+use Rattle.lines.specs.declared.Line.{Line}
 use Rattle.bodies.proofs.Picks.{neither-left, neither-right, both-left, both-right}
 use Rattle.masm.specs.Operands.{Operand}
 use Rattle.masm.specs.Lines.{Prefix, Line as Read, shows, read}
 use Rattle.masm.proofs.Texts.{OperandText, OperandsText, one-operand, more-operands, MnemonicText, PrefixText, LineText, bare-line, full-line, prefixed-line, line-read}
 use Rattle.readback.specs.Meaning.{shownIf, itemOf, meaning}
-use Rattle.readback.proofs.Sound.{SoundItem, Sound}
+use Rattle.readback.proofs.Sound.{SoundItem, Sound, isMissing, lacksLabel, isNothing, fromTheLeft}
 use Rattle.readback.proofs.Names.{xacquire, xrelease, lock, rep, repne, mnemonic-name}
 use Rattle.readback.proofs.Operands.{item-read}
 
@@ -145,7 +143,7 @@ line-parts : (h : Head) (t : List ℕ)
     → headText h ++ t
     ≡ when (h .xacquire) (bytes "xacquire ") ++ (when (h .xrelease) (bytes "xrelease ") ++ (when (h .lock) (bytes "lock ") ++ (when (h .rep) (bytes "rep ")
     ++ (when (h .repne) (bytes "repne ") ++ ((nameText (h .name) ++ when (h .suffix) (bytes "d")) ++ t)))))
-unfolding headText prefixesText
+unfolding headText prefixesText repsText
 line-parts h t = simp append-assoc
 
 -- ---- The theorem

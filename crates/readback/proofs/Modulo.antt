@@ -7,7 +7,7 @@ use native.Mathlib.Omega.{arith}
 use borrow.Author.Tests.{lt-ltb, le-ltb}
 use lib.IntN.{ℤ, pos, negsuc, subℕ, _+ℤ_}
 use Rattle.masm.specs.Operands.{wrapped}
-use Rattle.readback.specs.Meaning.{modulo}
+use Rattle.branches.specs.Sums.{modulo}
 
 -- a difference of two numbers
 pub modulo-difference : (a b : ℕ) → modulo (subℕ a b) ≡ (a + (2 ^ 32 - b % 2 ^ 32)) % 2 ^ 32

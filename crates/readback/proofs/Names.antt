@@ -11,15 +11,15 @@ use borrow.Author.Tests.{ne-eqb}
 use lib.Dec.{T, eqb}
 use Rattle.text.specs.Choice.{when}
 use Rattle.text.specs.Words.{bytes}
-use Rattle.names.specs.Mnemonics.{mnemonics, mnemonic}
+use Rattle.names.specs.Opcodes.{opcodeCount, opcodes, mnemonics, mnemonic}
+use Rattle.names.specs.Labels.{labels as label-names, labelWord}
 use Rattle.names.specs.Registers.{registers as register-names, registerName, segments as segment-names, segmentName}
 use Rattle.operands.specs.declared.Label.{Label}
 use Rattle.operands.specs.declared.Label.the-variants as label
-use Rattle.items.specs.Labels.{labelText, segmentText}
+use Rattle.lines.specs.Fronts.{labelText, segmentText}
 use Rattle.lines.specs.Text.{nameText}
-use Rattle.arrange.specs.Size.{isMissing}
-use Rattle.arrange.specs.declared.Name.{Name as Mnemonic}
-use Rattle.arrange.specs.declared.Name.the-variants.{Opcode, Feni, Fdisi, Fsetpm}
+use Rattle.lines.specs.declared.Name.{Name as Mnemonic}
+use Rattle.lines.specs.declared.Name.the-variants.{Opcode, Feni, Fdisi, Fsetpm}
 use Rattle.masm.specs.Tokens.{word, tokens, lookup}
 use Rattle.masm.specs.Expressions.{numeral, registers}
 use Rattle.masm.specs.Operands.{widths, labels, synonyms, segments}
@@ -30,7 +30,7 @@ use Rattle.masm.proofs.Expressions.{RegisterText}
 use Rattle.masm.proofs.Leaves.{isAlone, register-text, isInside, inside-text, segment-text, no-segment, label-text, isMnemonic, mnemonic-text}
 use Rattle.masm.proofs.Texts.{RegisterOperandText, SegmentText, LabelText, no-label, MnemonicText, PrefixText}
 use Rattle.readback.specs.Meaning.{segmentOf, labelOf, nameOf}
-use Rattle.readback.proofs.Sound.{Named, SoundName}
+use Rattle.readback.proofs.Sound.{Named, SoundName, isMissing}
 
 -- ---- Registers
 
@@ -76,7 +76,7 @@ segment-name (suc (suc (suc (suc (suc (suc (suc s))))))) h = absurd (omega arith
 -- ---- Labels
 
 pub label-name : (l : Label) → isMissing l ≡ false → LabelText (labelOf l) (labelText l)
-unfolding labelText tokens widths labels synonyms
+unfolding labelText labelWord label-names tokens widths labels synonyms
 label-name label.None h = no-label
 label-name label.Byte h = label-text (bytes "byte") tt refl (λ start ts. refl)
 label-name label.Word h = label-text (bytes "word") tt refl (λ start ts. refl)
@@ -119,18 +119,18 @@ repne = prefix-word (bytes "repne") (bytes "repne ") Repne tt refl refl
 -- ---- Mnemonics
 
 -- every opcode's name is a mnemonic, and so it is with a `d` after it
-mnemonics-read : T (below 154 (λ k. isMnemonic (mnemonic k) && isMnemonic (mnemonic k ++ bytes "d")))
-unfolding isMnemonic tokens prefixWords mnemonic mnemonics
+mnemonics-read : T (below opcodeCount (λ k. isMnemonic (mnemonic k) && isMnemonic (mnemonic k ++ bytes "d")))
+unfolding isMnemonic tokens prefixWords mnemonic mnemonics opcodes
 mnemonics-read = tt
 
-opcode-name : (k : ℕ) (d : Bool) → k < 154 → T (isMnemonic (mnemonic k ++ when d (bytes "d")))
+opcode-name : (k : ℕ) (d : Bool) → k < opcodeCount → T (isMnemonic (mnemonic k ++ when d (bytes "d")))
 opcode-name k true h =
     both (isMnemonic (mnemonic k)) (isMnemonic (mnemonic k ++ bytes "d"))
-    (below-at 154 (λ k. isMnemonic (mnemonic k) && isMnemonic (mnemonic k ++ bytes "d")) mnemonics-read k h) .1
+    (below-at opcodeCount (λ k. isMnemonic (mnemonic k) && isMnemonic (mnemonic k ++ bytes "d")) mnemonics-read k h) .1
 opcode-name k false h =
     rw append-nil
     (both (isMnemonic (mnemonic k)) (isMnemonic (mnemonic k ++ bytes "d"))
-    (below-at 154 (λ k. isMnemonic (mnemonic k) && isMnemonic (mnemonic k ++ bytes "d")) mnemonics-read k h) .0)
+    (below-at opcodeCount (λ k. isMnemonic (mnemonic k) && isMnemonic (mnemonic k ++ bytes "d")) mnemonics-read k h) .0)
 
 name-read : (n : Mnemonic) (d : Bool) → SoundName n → T (isMnemonic (nameOf n ++ when d (bytes "d")))
 unfolding isMnemonic tokens prefixWords

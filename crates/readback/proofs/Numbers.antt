@@ -1,7 +1,7 @@
 -- Numerals and absolutes are numbers to MASM's reader.
 -- Assumes nothing.
 use mathlib.Core.Path.{_≡_, refl}
-use mathlib.Core.Bool.{Bool, true, false}
+use mathlib.Core.Bool.{Bool, true, false, cond}
 use mathlib.Core.List.{[], _∷_, _++_, append-assoc}
 use Prim.Native.Nat.{ℕ, zero, suc, _+_, _-_, _/_, _%_, _^_, _≤_, _<_}
 use native.Mathlib.Nat.{mod-eq-of-lt, div-lt-iff-lt-mul, one-le-pow, pow-succ', le-refl, add-zero, suc-add, add-suc}
@@ -9,7 +9,7 @@ use native.Mathlib.Decide.{decLt}
 use native.Mathlib.Omega.{arith}
 use borrow.Author.Tests.{ltb-true, leb-false, lt-ltb}
 use lib.Dec.{T, ltb, leb, lit<}
-use Rattle.text.specs.Choice.{pick, when}
+use Rattle.text.specs.Choice.{when}
 use Rattle.text.specs.Words.{bytes}
 use Rattle.numerals.specs.Digits.{digit, digits, placesFrom, places}
 use Rattle.numerals.specs.Numerals.{figure, numeral, absolute}
@@ -61,11 +61,11 @@ module _ (j v : ℕ) (fits : v < 16 ^ suc j) (small : v < 2 ^ 32) where
 
 -- ---- Places
 
-enough-or : (v n m : ℕ) (b : Bool) → ltb v (16 ^ n) ≡ b → v < 16 ^ m → v < 16 ^ pick b n m
+enough-or : (v n m : ℕ) (b : Bool) → ltb v (16 ^ n) ≡ b → v < 16 ^ m → v < 16 ^ cond b n m
 enough-or v n m true e h = ltb-true v (16 ^ n) e
 enough-or v n m false e h = h
 
-at-least-or : (n m : ℕ) (b : Bool) → n ≤ m → n ≤ pick b n m
+at-least-or : (n m : ℕ) (b : Bool) → n ≤ m → n ≤ cond b n m
 at-least-or n m true h = le-refl n
 at-least-or n m false h = h
 

@@ -15,19 +15,19 @@ use Rattle.operands.specs.declared.Label.the-variants.{None}
 use Rattle.operands.specs.declared.Shown.{Shown}
 use Rattle.operands.specs.declared.Shown.the-variants.{Nothing, Name, St, Number, Word, Dword, Bracket, Branch}
 use Rattle.operands.specs.declared.Item.{Item}
-use Rattle.items.specs.Labels.{labelText, segmentText}
-use Rattle.items.specs.Brackets.{bracketText}
-use Rattle.items.specs.Items.{absoluteText, branchText, shownText, itemText}
+use Rattle.branches.specs.Sums.{modulo}
+use Rattle.names.specs.Labels.{labels, labelWord}
+use Rattle.lines.specs.Fronts.{labelText, segmentText}
+use Rattle.lines.specs.Brackets.{bracketText}
+use Rattle.lines.specs.Items.{absoluteText, branchText, shownText, itemText}
 use Rattle.bodies.specs.WellFormed.{AddressKept}
-use Rattle.arrange.specs.Size.{isMissing}
-use Rattle.arrange.specs.Order.{isNothing}
 use Rattle.lines.specs.Text.{shows}
 use Rattle.masm.specs.Expressions.{Register, constant}
 use Rattle.masm.specs.Operands.{Operand, branch, address, timesIn, wrapped}
 use Rattle.masm.proofs.Expressions.{number-term, term-sum}
 use Rattle.masm.proofs.Texts.{OperandText, number-operand, register-operand, branch-operand, address-operand}
-use Rattle.readback.specs.Meaning.{modulo, bySign, widthOf, labelOf, segmentOf, timesOf, addedOf, itemOf}
-use Rattle.readback.proofs.Sound.{SoundItem}
+use Rattle.readback.specs.Meaning.{bySign, widthOf, labelOf, segmentOf, timesOf, addedOf, itemOf}
+use Rattle.readback.proofs.Sound.{SoundItem, isMissing, isNothing}
 use Rattle.readback.proofs.Numbers.{numeral-text, absolute-text}
 use Rattle.readback.proofs.Names.{register-name, st-name, segment-name, label-name}
 use Rattle.readback.proofs.Modulo.{wrapped-modulo}
@@ -81,7 +81,7 @@ pub record ReadAs (start : ℕ) (x : Item) : Type 0 where
 
 -- with no label and no segment, the text is that of what is shown
 bare-text : (l : Label) (s : ℕ) (t : List ℕ) → (l ≡ None) × (s ≡ 0) → labelText l ++ (segmentText s ++ t) ≡ t
-unfolding labelText segmentText
+unfolding labelText labelWord labels segmentText
 bare-text l s t e = rw (e .0, e .1)
 
 module _ (start : ℕ) (l : Label) (s : ℕ) (known : isMissing l ≡ false) where

@@ -8,11 +8,12 @@ use Rattle.operands.specs.declared.Shown.{Shown}
 use Rattle.operands.specs.declared.Shown.the-variants.{Nothing, Name, St, Number, Word, Dword, Bracket, Branch}
 use Rattle.operands.specs.declared.Item.{Item}
 use Rattle.bodies.specs.WellFormed.{AddressKept}
-use Rattle.arrange.specs.Size.{lacksLabel}
-use Rattle.arrange.specs.Order.{fromTheLeft}
-use Rattle.arrange.specs.declared.Line.{Line}
-use Rattle.arrange.specs.declared.Name.{Name as Mnemonic}
-use Rattle.arrange.specs.declared.Name.the-variants.{Opcode, Feni, Fdisi, Fsetpm}
+use Rattle.names.specs.Opcodes.{opcodeCount}
+use Rattle.lines.specs.declared.Line.{Line}
+use Rattle.lines.specs.declared.Name.{Name as Mnemonic}
+use Rattle.lines.specs.declared.Name.the-variants.{Opcode, Feni, Fdisi, Fsetpm}
+pub use Rattle.arms.proofs.Labelled.{isMissing, lacksLabel}
+pub use Rattle.arms.proofs.Order.{counted, isNothing, fromTheLeft}
 
 -- a register byte that has a name
 pub record Named (reg : ℕ) : Type 0 where
@@ -63,7 +64,7 @@ pub record SoundItem (branches : Bool) (x : Item) : Type 0 where
 
 -- the mnemonic is an opcode's name, or one of the three words
 abbrev pub SoundName : Mnemonic → Type 0
-SoundName (Opcode opcode) = opcode < 154
+SoundName (Opcode opcode) = opcode < opcodeCount
 SoundName Feni = Unit {0}
 SoundName Fdisi = Unit {0}
 SoundName Fsetpm = Unit {0}

@@ -8,9 +8,9 @@ use native.Mathlib.Nat.{mod-lt}
 use native.Mathlib.Omega.{arith}
 use lib.Dec.{lit<}
 use lib.IntN.{ℤ, pos, negsuc, natAbs, _+ℤ_, +ℤ-comm}
-use Rattle.branches.specs.Sums.{signed, below0}
+use Rattle.branches.specs.Sums.{signed, below0, modulo}
 use Rattle.branches.proofs.Sums.{signed-low, signed-high, whole-low, whole-back, whole-over}
-use Rattle.readback.specs.Meaning.{modulo, bySign}
+use Rattle.readback.specs.Meaning.{bySign}
 use Rattle.readback.specs.Targets.{FitsByte}
 use Rattle.readback.proofs.Modulo.{modulo-plus}
 

@@ -7,10 +7,11 @@ use Prim.Native.Nat.{ℕ, zero, suc}
 use lib.Dec.{eqb}
 use lib.ListN.{length, drop}
 use Rattle.text.specs.Words.{empty}
-use Rattle.arrange.specs.declared.Line.{Line}
-use Rattle.records.specs.Answers.{lowest}
+use Rattle.lines.specs.declared.Line.{Line}
+use Rattle.answers.specs.Refusals.{answerOf}
+use Rattle.frames.specs.Frames.{isWhole, bodyOf, frameSize, knownVersion}
 use Rattle.records.specs.Records.{refusals, lineAt}
-use Rattle.listings.specs.Frames.{isWhole, bodyOf, frameSize}
+use Rattle.records.specs.declared.Asked.{Asked}
 use Rattle.masm.specs.Lines.{Reading, shows, no-instruction}
 use Rattle.readback.specs.Meaning.{meaning}
 
@@ -28,22 +29,22 @@ linesIn (c ∷ t) = cond (eqb c 10) ([] ∷ linesIn t) (onFirst c (linesIn t))
 -- ---- What each line shows: a record's line, or nothing, where it is a comment
 
 -- a record that none of answers 1 to 5 refuses shows its line; of any other, `; refused N` shows nothing
-abbrev pub recordShows : (mode : ℕ) (body : List ℕ) → Option Line
-recordShows mode body = cond (eqb (lowest 1 (refusals mode body [])) 0) (some (lineAt mode body)) none
+abbrev pub recordShows : (asked : Asked) (body : List ℕ) → Option Line
+recordShows asked body = cond (eqb (answerOf (refusals asked body)) 0) (some (lineAt asked body)) none
 
 -- what stands in front: a whole frame's record; `; cut` shows nothing
-abbrev pub frontShows : (mode : ℕ) (xs : List ℕ) → Option Line
-frontShows mode xs = cond (isWhole xs) (recordShows mode (bodyOf xs)) none
+abbrev pub frontShows : (asked : Asked) (xs : List ℕ) → Option Line
+frontShows asked xs = cond (isWhole xs) (recordShows asked (bodyOf xs)) none
 
 -- at most k frames, one after the other to the end
-abbrev pub showsWithin : (k mode : ℕ) (xs : List ℕ) → List (Option Line)
-showsWithin zero mode xs = []
-showsWithin (suc k) mode xs = cond (empty xs) [] (frontShows mode xs ∷ showsWithin k mode (drop (frameSize xs) xs))
+abbrev pub showsWithin : (k : ℕ) (asked : Asked) (xs : List ℕ) → List (Option Line)
+showsWithin zero asked xs = []
+showsWithin (suc k) asked xs = cond (empty xs) [] (frontShows asked xs ∷ showsWithin k asked (drop (frameSize xs) xs))
 
 -- a listing: one entry for each frame; `; cut` of an empty listing, and `; version`, show nothing
-abbrev pub listingShows : (mode : ℕ) (listing : List ℕ) → List (Option Line)
-listingShows mode [] = none ∷ []
-listingShows mode (version ∷ xs) = cond (eqb version 1) (showsWithin (length xs) mode xs) (none ∷ [])
+abbrev pub listingShows : (asked : Asked) (listing : List ℕ) → List (Option Line)
+listingShows asked [] = none ∷ []
+listingShows asked (version ∷ xs) = cond (knownVersion version) (showsWithin (length xs) asked xs) (none ∷ [])
 
 -- how a line is read that shows this
 abbrev pub readingOf : (start : ℕ) → Option Line → Reading

@@ -3,22 +3,24 @@
 use mathlib.Core.Bool.{Bool, true, false, cond, _&&_}
 use mathlib.Core.List.{List, [], _∷_, _++_}
 use mathlib.Core.Option.{Option, none, some}
-use Prim.Native.Nat.{ℕ, suc, _+_, _-_, _%_, _^_}
+use Prim.Native.Nat.{ℕ, _+_, _%_, _^_}
 use lib.Dec.{ltb, eqb}
-use lib.IntN.{ℤ, pos, negsuc, negℤ, _+ℤ_}
+use lib.IntN.{ℤ, pos, negℤ, _+ℤ_}
 use Rattle.text.specs.Choice.{when}
 use Rattle.text.specs.Words.{bytes}
-use Rattle.names.specs.Mnemonics.{mnemonic}
+use Rattle.names.specs.Opcodes.{mnemonic}
 use Rattle.operands.specs.declared.Address.{Address}
 use Rattle.operands.specs.declared.Label.{Label}
 use Rattle.operands.specs.declared.Label.the-variants as label
 use Rattle.operands.specs.declared.Shown.{Shown}
 use Rattle.operands.specs.declared.Shown.the-variants.{Nothing, Name, St, Number, Word, Dword, Bracket, Branch}
 use Rattle.operands.specs.declared.Item.{Item}
-use Rattle.arrange.specs.declared.Head.{Head}
-use Rattle.arrange.specs.declared.Line.{Line}
-use Rattle.arrange.specs.declared.Name.{Name as Mnemonic}
-use Rattle.arrange.specs.declared.Name.the-variants.{Opcode, Feni, Fdisi, Fsetpm}
+use Rattle.operands.specs.RegisterBytes.{st0}
+use Rattle.branches.specs.Sums.{modulo}
+use Rattle.lines.specs.declared.Head.{Head}
+use Rattle.lines.specs.declared.Line.{Line}
+use Rattle.lines.specs.declared.Name.{Name as Mnemonic}
+use Rattle.lines.specs.declared.Name.the-variants.{Opcode, Feni, Fdisi, Fsetpm}
 use Rattle.masm.specs.Operands as masm
 use Rattle.masm.specs.Expressions.{Register}
 use Rattle.masm.specs.Operands.{Operand, Width, Near, register, immediate, branch, address}
@@ -48,11 +50,6 @@ abbrev pub mnemonicOf : Head → List ℕ
 mnemonicOf h = nameOf (h .name) ++ when (h .suffix) (bytes "d")
 
 -- ---- Numbers
-
--- an integer modulo 2^32: below 0, what is missing to the next multiple of 2^32
-abbrev pub modulo : ℤ → ℕ
-modulo (pos n) = n % 2 ^ 32
-modulo (negsuc n) = (2 ^ 32 - suc n % 2 ^ 32) % 2 ^ 32
 
 -- an integer by its sign and its size
 abbrev pub bySign : (minus : Bool) → ℕ → ℤ
@@ -91,12 +88,12 @@ timesOf a r = cond (a .based && eqb r (a .base)) 1 0 + cond (a .indexed && eqb r
 abbrev pub addedOf : Address → ℤ
 addedOf a = cond (a .displaced) (a .disp) (pos 0)
 
--- what an operand of a line shows, or nothing: a register by its byte (`st` is st(0), 32), an immediate, an address, or a branch to
+-- what an operand of a line shows, or nothing: a register by its byte (`st` is st(0)), an immediate, an address, or a branch to
 -- the sum of the start and the signed number after `$`. An absolute is an address that counts no register.
 abbrev pub operandOf : (start : ℕ) (label : Label) (segment : ℕ) → Shown → List Operand
 operandOf start label segment Nothing = []
 operandOf start label segment (Name reg) = register reg ∷ []
-operandOf start label segment St = register 32 ∷ []
+operandOf start label segment St = register st0 ∷ []
 operandOf start label segment (Number value) = immediate (value % 2 ^ 32) ∷ []
 operandOf start label segment (Word value) = address (labelOf label) (segmentOf segment) (λ r. 0) (value % 2 ^ 32) ∷ []
 operandOf start label segment (Dword value) = address (labelOf label) (segmentOf segment) (λ r. 0) (value % 2 ^ 32) ∷ []
