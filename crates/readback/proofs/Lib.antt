@@ -10,3 +10,5 @@ pub mod Kept
 pub mod Arms
 pub mod Sums
 pub mod Readback
+pub mod Records
+pub mod Readings
