@@ -10,5 +10,6 @@ pub mod Kept
 pub mod Arms
 pub mod Sums
 pub mod Readback
+pub mod Branching
 pub mod Records
 pub mod Readings
