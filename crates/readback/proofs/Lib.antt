@@ -14,4 +14,5 @@ pub mod Branching
 pub mod Exactly
 pub mod Counterexample
 pub mod Records
+pub mod OneByOne
 pub mod Readings
