@@ -1,7 +1,7 @@
 -- Each operand that keeps the record rules is shown as a sound item at every place; so are the registers that a place names, and branches.
 -- Assumes nothing.
 use mathlib.Core.Path.{_≡_, refl, sym, _∙_}
-use mathlib.Core.Bool.{Bool, true, false, cond, _&&_, true≢false}
+use mathlib.Core.Bool.{Bool, true, false, _&&_, true≢false}
 use Prim.Native.Nat.{ℕ, zero, suc, _+_, _^_, _≤_, _<_}
 use native.Mathlib.Decide.{decLt}
 use native.Mathlib.Omega.{arith}
@@ -17,7 +17,6 @@ use Rattle.operands.specs.declared.Instruction.{Instruction}
 use Rattle.operands.specs.declared.Label.{Label}
 use Rattle.operands.specs.declared.Shown.{Shown}
 use Rattle.operands.specs.declared.Shown.the-variants as shown
-use Rattle.operands.specs.declared.Item.{Item}
 use Rattle.bodies.specs.WellFormed.{Kept, WellFormed}
 use Rattle.bodies.proofs.Picks.{both-left, both-right, picked}
 use Rattle.branches.specs.declared.Mode.{Mode}

@@ -1,8 +1,9 @@
 -- What the lines of a listing show, frame by frame, and a text cut at its newlines.
 -- Assumes nothing.
 use mathlib.Core.Bool.{cond}
-use mathlib.Core.List.{List, [], _∷_}
+use mathlib.Core.List.{List, [], _∷_, map}
 use mathlib.Core.Option.{Option, none, some}
+use mathlib.Core.Path.{_≡_}
 use Prim.Native.Nat.{ℕ, zero, suc}
 use lib.Dec.{eqb}
 use lib.ListN.{length, drop}
@@ -12,7 +13,7 @@ use Rattle.answers.specs.Refusals.{answerOf}
 use Rattle.frames.specs.Frames.{isWhole, bodyOf, frameSize, knownVersion}
 use Rattle.records.specs.Records.{refusals, lineAt}
 use Rattle.records.specs.declared.Asked.{Asked}
-use Rattle.masm.specs.Lines.{Reading, shows, no-instruction}
+use Rattle.masm.specs.Lines.{Reading, shows, no-instruction, read}
 use Rattle.readback.specs.Meaning.{meaning}
 
 -- ---- Lines of a text
@@ -50,3 +51,7 @@ listingShows asked (version ∷ xs) = cond (knownVersion version) (showsWithin (
 abbrev pub readingOf : (start : ℕ) → Option Line → Reading
 readingOf start none = no-instruction
 readingOf start (some l) = shows (meaning start l)
+
+-- a text, cut at its newlines, reads line by line as what is shown
+abbrev pub ReadsAs : (start : ℕ) (text : List ℕ) (shown : List (Option Line)) → Type 0
+ReadsAs start text shown = map (read start) (linesIn text) ≡ map (readingOf start) shown
