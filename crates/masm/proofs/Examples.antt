@@ -1,115 +1,167 @@
--- Worked examples from MASM's rules on numbers, addresses and lines, each by computation. Many are lines that no printer of ours prints.
--- Registers by number: 0 eax, 1 ecx, 2 edx, 6 esi, 7 edi, 24 es, 28 fs, 32 st(0), 35 st(3).
+-- Worked examples from MASM's rules on numbers, expressions, addresses and lines, each by computation. Many are lines that no printer of
+-- ours prints. Our own choices, where MASM reads otherwise or refuses, stand apart in Choices.antt.
+-- Registers by number: 0 eax, 1 ecx, 2 edx, 3 ebx, 6 esi, 7 edi, 24 es, 28 fs, 32 st(0), 35 st(3).
 use mathlib.Core.Path.{_≡_, refl, ap, fun-ext}
 use mathlib.Core.Bool.{Bool, true, false, cond}
-use mathlib.Core.List.{List, [], _∷_}
-use mathlib.Core.Option.{Option, none, some}
+use mathlib.Core.List.{List, [], _∷_, map}
+use mathlib.Core.Option.{none, some}
 use Prim.Native.Nat.{ℕ, _+_, _-_, _%_, _^_}
 use Prim.Native.String.{String}
 use lib.Dec.{eqb}
 use Rattle.masm.specs.Tokens.{bytes}
-use Rattle.masm.specs.Operands.{Register, Label, Unlabelled, Byte, Dword, Sum, constant, multiple, plus}
-use Rattle.masm.specs.Operands.{Operand, register, immediate, branch, address}
-use Rattle.masm.specs.Lines.{Rep, Line, read}
+use Rattle.masm.specs.Expressions.{Register}
+use Rattle.masm.specs.Operands.{Near, Byte, Dword, Tbyte, timesIn, Operand, register, immediate, branch, address}
+use Rattle.masm.specs.Lines.{Rep, Reading, shows, no-instruction, refused, read}
 
 -- a mnemonic and operands, with no prefix words
-abbrev shows : String → List Operand → Option Line
-shows name os = some (record { prefixes = []; mnemonic = bytes name; operands = os })
+abbrev pub says : String → List Operand → Reading
+says name os = shows (record { prefixes = []; mnemonic = bytes name; operands = os })
 
--- the address that a sum comes to
-abbrev at : Label → Option Register → Sum → Operand
-at l s a = address l s (a .times) (a .disp % 2 ^ 32)
+-- these lines are all read so
+abbrev pub AllRead : List String → Reading → Type 0
+AllRead lines r = map (λ s. read 0 (bytes s)) lines ≡ map (λ s. r) lines
 
 -- ---- Numbers
 
-without-h-is-decimal : read 0 (bytes "mov eax, 10") ≡ shows "mov" (register 0 ∷ immediate 10 ∷ [])
+without-a-letter-is-decimal : read 0 (bytes "mov eax, 10") ≡ says "mov" (register 0 ∷ immediate 10 ∷ [])
 unfolding read
-without-h-is-decimal = refl
+without-a-letter-is-decimal = refl
 
-with-h-is-hexadecimal : read 0 (bytes "mov eax, 10h") ≡ shows "mov" (register 0 ∷ immediate 16 ∷ [])
+with-h-is-hexadecimal : read 0 (bytes "mov eax, 10h") ≡ says "mov" (register 0 ∷ immediate 16 ∷ [])
 unfolding read
 with-h-is-hexadecimal = refl
 
-either-case : read 0 (bytes "MOV Eax,0fFH") ≡ shows "mov" (register 0 ∷ immediate 255 ∷ [])
+every-radix : AllRead ("push 13" ∷ "push 13d" ∷ "push 13T" ∷ "push 0Dh" ∷ "push 15o" ∷ "push 15Q" ∷ "push 1101b" ∷ "push 1101Y" ∷ []) (says "push" (immediate 13 ∷ []))
+unfolding read
+every-radix = refl
+
+either-case : read 0 (bytes "MOV Eax,0fFH") ≡ says "mov" (register 0 ∷ immediate 255 ∷ [])
 unfolding read
 either-case = refl
 
-a-letter-begins-no-number : read 0 (bytes "mov eax, FFh") ≡ none
+-- a letter first, a digit of another base, and a number of 2^32 are no numbers
+no-number : AllRead ("push FFh" ∷ "push 12b" ∷ "push 1e" ∷ "push 100000000h" ∷ "push 4294967296" ∷ []) refused
 unfolding read
-a-letter-begins-no-number = refl
+no-number = refl
 
-immediates-wrap : read 0 (bytes "push 100000001h") ≡ shows "push" (immediate 1 ∷ [])
+largest : read 0 (bytes "push 4294967295") ≡ says "push" (immediate 4294967295 ∷ [])
 unfolding read
-immediates-wrap = refl
+largest = refl
+
+-- ---- Constants
+
+minus-one : AllRead ("push -1" ∷ "push 1 - 2" ∷ "push 0FFFFFFFFh" ∷ "push 2 - 3 * 1" ∷ "push -(3 - 2)" ∷ "push 1 * -1" ∷ []) (says "push" (immediate 4294967295 ∷ []))
+unfolding read
+minus-one = refl
+
+nine : AllRead ("push (1 + 2) * 3" ∷ "push 3 + 2 * 3" ∷ "push 13 - 2 - 2" ∷ "push 10 - 2 + 1" ∷ "push 13 - (2 + 2)" ∷ "push - - 9" ∷ "push +9" ∷ "push 3 * 2 (1)" ∷ []) (says "push" (immediate 9 ∷ []))
+unfolding read
+nine = refl
+
+not-an-expression : AllRead ("push 10 20" ∷ "push ()" ∷ "push (5" ∷ "push 5)" ∷ "push (5]" ∷ "push 5 +" ∷ "push * 5" ∷ "push 5 * * 5" ∷ []) refused
+unfolding read
+not-an-expression = refl
 
 -- ---- Registers
 
-registers-in-order : read 0 (bytes "xchg ecx, edx") ≡ shows "xchg" (register 1 ∷ register 2 ∷ [])
+registers-in-order : read 0 (bytes "xchg ecx, edx") ≡ says "xchg" (register 1 ∷ register 2 ∷ [])
 unfolding read
 registers-in-order = refl
 
-stack-registers : read 0 (bytes "fadd st, st(3)") ≡ shows "fadd" (register 32 ∷ register 35 ∷ [])
+stack-registers : read 0 (bytes "fadd st, st (3)") ≡ says "fadd" (register 32 ∷ register 35 ∷ [])
 unfolding read
 stack-registers = refl
 
+a-type-before-a-register : read 0 (bytes "inc dword ptr eax") ≡ says "inc" (register 0 ∷ [])
+unfolding read
+a-type-before-a-register = refl
+
 -- ---- Addresses
 
-number-times-register : read 0 (bytes "mov eax, [4 * eax + 10h]")
-    ≡ shows "mov" (register 0 ∷ at Unlabelled none (plus (multiple 0 4) (constant 16)) ∷ [])
+-- one address in many ways: ebx once, esi four times, and 8
+one-address :
+    AllRead (
+    "lea eax, [ebx + esi * 4 + 8]" ∷ "lea eax, [ebx][esi*4][8]" ∷ "lea eax, 8[ebx][4*esi]" ∷ "lea eax, [ebx+esi*(8-4)]+2*4" ∷ "lea eax, [ebx - (8 - 16)][esi*4]"
+    ∷ "lea eax, 10[ebx + esi*4] - 2" ∷ "lea eax, [ebx] + [esi * 4] + 8" ∷ "lea eax, [(ebx) + 4 * esi + 0Ah - 2]" ∷ "lea eax, [ebx + esi*2(2) + 8]" ∷ []
+    )
+    (says "lea" (register 0 ∷ address none none (timesIn ((3, 1) ∷ (6, 4) ∷ [])) 8 ∷ []))
 unfolding read
-number-times-register = refl
+one-address = refl
 
 least-displacement : read 0 (bytes "mov eax, dword ptr [eax - 80000000h]")
-    ≡ shows "mov" (register 0 ∷ at Dword none (plus (multiple 0 1) (constant (2 ^ 31))) ∷ [])
+    ≡ says "mov" (register 0 ∷ address (some Dword) none (timesIn ((0, 1) ∷ [])) (2 ^ 31) ∷ [])
 unfolding read
 least-displacement = refl
 
-a-lone-number-is-an-address : read 0 (bytes "fxsave fs:[0ABCDh]")
-    ≡ shows "fxsave" (at Unlabelled (some 28) (constant 43981) ∷ [])
-unfolding read
-a-lone-number-is-an-address = refl
-
 -- a register that stands twice counts twice
-doubled : read 0 (bytes "mov eax, [ecx + ecx]") ≡ shows "mov" (register 0 ∷ at Unlabelled none (multiple 1 2) ∷ [])
+doubled : read 0 (bytes "lea eax, [ecx + ecx]") ≡ says "lea" (register 0 ∷ address none none (timesIn ((1, 2) ∷ [])) 0 ∷ [])
 unfolding read
-doubled =
-    ap (λ (times : Register → ℕ). shows "mov" (register 0 ∷ address Unlabelled none times 0 ∷ [])) (fun-ext (λ r. twice (eqb r 1)))
+doubled = ap (λ (times : Register → ℕ). says "lea" (register 0 ∷ address none none times 0 ∷ [])) (fun-ext (λ r. twice (eqb r 1)))
   where
-    twice : (b : Bool) → cond b 1 0 + cond b 1 0 ≡ cond b 2 0
+    twice : (b : Bool) → cond b 1 0 + (cond b 1 0 + 0) ≡ cond b 2 0 + 0
     twice true = refl
     twice false = refl
 
-no-register-is-subtracted : read 0 (bytes "mov eax, [eax - ecx]") ≡ none
+a-segment-makes-memory : AllRead ("inc dword ptr fs:0" ∷ "inc dword ptr fs:[0]" ∷ "inc sdword ptr FS : (8 - 8)" ∷ "inc real4 ptr fs:[4] - 4" ∷ []) (says "inc" (address (some Dword) (some 28) (timesIn []) 0 ∷ []))
 unfolding read
-no-register-is-subtracted = refl
+a-segment-makes-memory = refl
+
+type-words : AllRead ("fld tbyte ptr [ecx]" ∷ "fld real10 ptr [ecx]" ∷ []) (says "fld" (address (some Tbyte) none (timesIn ((1, 1) ∷ [])) 0 ∷ []))
+unfolding read
+type-words = refl
+
+-- registers are not subtracted, not multiplied with each other, and stand in a bracket
+no-address : AllRead ("lea edx, [eax - ecx]" ∷ "lea edx, [-eax]" ∷ "lea edx, -8[eax]" ∷ "lea edx, [eax * ecx]" ∷ "lea edx, eax + 1" ∷ "mov edx, fs:eax" ∷ "lea edx, eax[8]" ∷ "lea edx, [ecx" ∷ "inc dword [ecx]" ∷ []) refused
+unfolding read
+no-address = refl
 
 -- ---- Branches
 
-near-from-the-start : read 4096 (bytes "jmp near ptr $+80h") ≡ shows "jmp" (branch true 4224 ∷ [])
+from-the-start : (start : ℕ) → read start (bytes "jmp $+80h") ≡ says "jmp" (branch none ((start + 128) % 2 ^ 32) ∷ [])
+unfolding read
+from-the-start start = refl
+
+near-from-the-start : read 4096 (bytes "jmp near ptr $+80h") ≡ says "jmp" (branch (some Near) 4224 ∷ [])
 unfolding read
 near-from-the-start = refl
 
-back-past-zero : read 64 (bytes "jmp $ - 80h") ≡ shows "jmp" (branch false (2 ^ 32 - 64) ∷ [])
+back-past-zero : read 64 (bytes "jmp $ - 80h") ≡ says "jmp" (branch none (2 ^ 32 - 64) ∷ [])
 unfolding read
 back-past-zero = refl
+
+one-target : AllRead ("jmp $ + 80h - 2" ∷ "jmp 80h + $ - 2" ∷ "jmp $ + (80h - 2)" ∷ "jmp 7Eh + ($)" ∷ "jmp ($ + 80h) - 2" ∷ []) (says "jmp" (branch none 126 ∷ []))
+unfolding read
+one-target = refl
+
+no-target : AllRead ("jmp $ + $" ∷ "jmp - $" ∷ "jmp 8 - $" ∷ "jmp near ptr 80h" ∷ "jmp near $" ∷ "jmp near ptr eax" ∷ []) refused
+unfolding read
+no-target = refl
+
+-- `$` is a letter of names: this is an instruction named `jmp$`, which MASM does not know, and no branch
+a-name-with-a-dollar : AllRead ("jmp$ + 80h" ∷ "jmp$+80h" ∷ []) (says "jmp$" (immediate 128 ∷ []))
+unfolding read
+a-name-with-a-dollar = refl
 
 -- ---- Lines
 
 prefix-and-labels : read 0 (bytes "rep movs byte ptr es:[edi], byte ptr [esi]")
-    ≡ some (record {
+    ≡ shows (record {
       prefixes = Rep ∷ [];
       mnemonic = bytes "movs";
-      operands = at Byte (some 24) (multiple 7 1) ∷ at Byte none (multiple 6 1) ∷ [];
+      operands = address (some Byte) (some 24) (timesIn ((7, 1) ∷ [])) 0 ∷ address (some Byte) none (timesIn ((6, 1) ∷ [])) 0 ∷ [];
     })
 unfolding read
 prefix-and-labels = refl
 
-abbrev allRefused : List String → Bool
-allRefused [] = true
-allRefused (s ∷ more) = elim (read 0 (bytes s)) [ none ↦ allRefused more | some l ↦ false ]
-
--- no mnemonic, an operand too few, a second bracket or half of one, a label without an address, two numbers
-no-guess : allRefused ("" ∷ "lock" ∷ "mov eax, , ecx" ∷ "mov eax," ∷ "mov eax, [ebx][esi]" ∷ "inc [ecx" ∷ "inc dword ptr eax" ∷ "push 10 20" ∷ [])
-    ≡ true
+a-comment-ends-the-line : AllRead ("push 5;" ∷ "push 5 ; , [ eax" ∷ "\tPUSH\t5\t; push 6" ∷ []) (says "push" (immediate 5 ∷ []))
 unfolding read
-no-guess = refl
+a-comment-ends-the-line = refl
+
+nothing-there : AllRead ("" ∷ "  \t " ∷ "; refused 4" ∷ "  ; mov eax, ecx" ∷ []) no-instruction
+unfolding read
+nothing-there = refl
+
+-- an operand too few, and no mnemonic
+no-line : AllRead ("mov eax, , ecx" ∷ "mov eax," ∷ "mov , eax" ∷ "lock" ∷ ", eax" ∷ "5" ∷ []) refused
+unfolding read
+no-line = refl

@@ -8,18 +8,18 @@ use native.Mathlib.Nat.{mod-lt, mod-one, div-one, div-div-eq-div-mul, pow-suc, p
 use native.Mathlib.Decide.{ℕ-discrete}
 use native.Mathlib.Omega.{arith}
 use lib.Arith.{mod-mul, lt→nleb}
-use lib.Dec.{T, ltb, leb, eqb, eqb→eq, leb→le, lt→ltb, lit<, not-T}
+use lib.Dec.{T, ltb, leb, eqb, eqb→eq, leb→le, lt→ltb, lit<}
 use lib.Ieee.Bits.{is-true, is-false}
 use Rattle.masm.specs.Tokens.{bytes, isDigit, isWord, small, word, tokens}
-use Rattle.masm.specs.Operands.{digitValue, valueFrom, begins, numeral, ptr}
-use Rattle.masm.proofs.Tokens.{both, pair, all, all-append, one-word, free}
+use Rattle.masm.specs.Expressions.{digitValue, valueFrom, begins, numeral}
+use Rattle.masm.proofs.Tokens.{both, pair, all, all-append, one-word}
 
--- the text `u` is one word, which reads as the number `v` and is not `ptr`
+-- the text `u` is one word, which reads as the number `v`
 pub record NumberText (v : ℕ) (u : List ℕ) : Type 0 where
   pub spelling : List ℕ
   pub one-token : tokens u ≡ word spelling ∷ []
+  pub digit : T (begins isDigit spelling)
   pub value : numeral spelling ≡ some v
-  pub unparted : T (free (ptr ∷ []) (word spelling ∷ []))
 
 -- ---- A table's rule, by one computed test
 
@@ -58,27 +58,20 @@ begins-small : (u : List ℕ) → T (begins isDigit u) → T (begins isDigit (ma
 begins-small [] h = h
 begins-small (c ∷ u) h = rw (digit-small c h) h
 
-number-of : (v : ℕ) (w : List ℕ) → T (begins isDigit w) → valueFrom 16 (bytes "h") 0 w ≡ some v → numeral w ≡ some v
+number-of : (v : ℕ) (w : List ℕ) → v < 2 ^ 32 → T (begins isDigit w) → valueFrom 16 (bytes "h") 0 w ≡ some v → numeral w ≡ some v
 unfolding numeral
-number-of v w h e = rw (is-true (begins isDigit w) h, e)
+number-of v w l h e = rw (is-true (begins isDigit w) h, e, is-true (ltb v (2 ^ 32)) (lt→ltb v (2 ^ 32) l))
 
--- a word that begins with a digit is not the word `ptr`
-not-ptr : (w : List ℕ) → T (begins isDigit w) → T (free (ptr ∷ []) (word w ∷ []))
-not-ptr [] h = absurd h
-not-ptr (c ∷ w) h =
-    let (a, b) = both (leb 48 c) (leb c 57) h in
-    rw (is-false (eqb c 112) (not-T (eqb c 112) (λ e. omega (arith, leb→le c 57 b, eqb→eq c 112 e)))) tt
-
--- a text of digits and the `h` behind them
-hexadecimal-text : (v : ℕ) (u : List ℕ) → T (all isWord u) → T (begins isDigit u) → valueFrom 16 (bytes "h") 0 (map small u) ≡ some v
+-- a text of digits and the `h` after them
+hexadecimal-text : (v : ℕ) (u : List ℕ) → v < 2 ^ 32 → T (all isWord u) → T (begins isDigit u) → valueFrom 16 (bytes "h") 0 (map small u) ≡ some v
     → NumberText v u
-hexadecimal-text v u h k e =
+hexadecimal-text v u l h k e =
     let b = begins-small u k in
     record {
       spelling = map small u;
       one-token = one-word isDigit u h k;
-      value = number-of v (map small u) b e;
-      unparted = not-ptr (map small u) b;
+      digit = b;
+      value = number-of v (map small u) l b e;
     }
 
 -- Any way of writing digits by place value: `digits k v` are the last k of them, and `digit d` is the character for d.
@@ -122,9 +115,9 @@ module _ (digit : ℕ → ℕ) (digits : ℕ → ℕ → List ℕ) (rule : T (be
     top-digit p (suc j) v w = rw (one-more (suc j) v, append-assoc, top-digit p j (v / 16), div-div-eq-div-mul, pow-succ')
 
     -- the digits and an `h`
-    pub hexadecimal : (k v : ℕ) → T (begins isDigit (digits k v ++ bytes "h")) → NumberText (v % 16 ^ k) (digits k v ++ bytes "h")
-    hexadecimal k v h = hexadecimal-text (v % 16 ^ k) (digits k v ++ bytes "h") (text-word k v) h (text-value k v)
+    pub hexadecimal : (k v : ℕ) → v % 16 ^ k < 2 ^ 32 → T (begins isDigit (digits k v ++ bytes "h")) → NumberText (v % 16 ^ k) (digits k v ++ bytes "h")
+    hexadecimal k v l h = hexadecimal-text (v % 16 ^ k) (digits k v ++ bytes "h") l (text-word k v) h (text-value k v)
 
-    -- the same behind a 0
-    pub hexadecimal-0 : (k v : ℕ) → NumberText (v % 16 ^ k) (48 ∷ digits k v ++ bytes "h")
-    hexadecimal-0 k v = hexadecimal-text (v % 16 ^ k) (48 ∷ digits k v ++ bytes "h") (text-word k v) tt (text-value k v)
+    -- the same after a 0
+    pub hexadecimal-0 : (k v : ℕ) → v % 16 ^ k < 2 ^ 32 → NumberText (v % 16 ^ k) (48 ∷ digits k v ++ bytes "h")
+    hexadecimal-0 k v l = hexadecimal-text (v % 16 ^ k) (48 ∷ digits k v ++ bytes "h") l (text-word k v) tt (text-value k v)

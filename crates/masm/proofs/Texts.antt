@@ -1,254 +1,215 @@
--- How a text is read that is put together from parts: each part carries its reading, and each law joins them.
-use mathlib.Core.Path.{_≡_, refl, ap, fun-ext}
-use mathlib.Core.Bool.{Bool, true, false, cond}
+-- How operands and lines are read whose texts are put together from parts: each part carries its reading, and each law joins them.
+use mathlib.Core.Path.{_≡_, refl, ap}
+use mathlib.Core.Bool.{Bool, true, false, cond, not, _&&_, _||_}
 use mathlib.Core.List.{List, [], _∷_, _++_}
 use mathlib.Core.Option.{Option, none, some, Option·map, Option·none-ne-some}
-use Prim.Native.Nat.{ℕ, _+_, _-_, _%_, _^_}
-use native.Mathlib.Nat.{zero-add, add-zero}
-use lib.Dec.{T}
-use lib.Ieee.Bits.{is-true}
-use Rattle.masm.specs.Tokens.{bytes, isLetter, Token, word, sign, tokens, signs, end, part, cut, lookup}
-use Rattle.masm.specs.Operands.{begins, number, registers, labels, segments, Label, Unlabelled, Sum, constant, multiple, plus, term, sum, Register}
-use Rattle.masm.specs.Operands.{Operand, register, immediate, branch, address, operand, addressOf, ptr}
-use Rattle.masm.specs.Lines.{Prefix, prefixWords, Line, prefixed, between-commas, operandsOf, instruction, line, read}
-use Rattle.masm.proofs.Tokens.{Leads, free, free-append, free-of, cut-end, cut-at, tokens-append, blank-between, sign-between, comma-between}
+use Prim.Native.Nat.{ℕ, _+_, _%_, _^_}
+use lib.Dec.{T, T-not, not-T, eqb, eqb→eq}
+use lib.Ieee.Bits.{is-true, is-false}
+use lib.IntN.{pos, negℤ, _+ℤ_, +ℤ-idl}
+use Rattle.masm.specs.Tokens.{bytes, isDigit, isLetter, Token, word, sign, tokens, sameList, sameToken, parts, Table, lookup, after, front, isSaid, each, _>>=_}
+use Rattle.masm.specs.Expressions.{begins, Register, registers, Value, zero, expression}
+use Rattle.masm.specs.Operands.{Width, Near, widths, Label, labels, synonyms, segments, timesIn, wrapped}
+use Rattle.masm.specs.Operands.{Operand, register, immediate, branch, address, addressOf, plainOf, typed, operand}
+use Rattle.masm.specs.Lines.{Prefix, prefixWords, Line, prefixed, operandsOf, instruction, line, shows, readTokens, read}
+use Rattle.masm.proofs.Tokens.{both, Leads, quiet, quiet-append, plain, plain-append, no-comma, plain-quiet, quiet-uncommented, unbroken, quiet-unbroken, one-part, part-before-comma, tokens-append, blank-between, comma-between}
 use Rattle.masm.proofs.Numerals.{NumberText}
+use Rattle.masm.proofs.Expressions.{SumText, bracket-value, number-value, dollar-value}
 
--- ---- Where tokens are cut: operands of a line, forms of an operand, terms of a sum, factors of a term
+-- ---- A word that begins with a digit is in no table
 
-abbrev pub at-operands : List Token
-at-operands = signs ","
+abbrev letterFirst : List Token → Bool
+letterFirst [] = false
+letterFirst (sign c ∷ ts) = false
+letterFirst (word w ∷ ts) = not (begins isDigit w)
 
-abbrev pub at-forms : List Token
-at-forms = ptr ∷ signs "[]"
+-- all names begin with a word that begins with no digit
+abbrev lettered : {A : Type 0} → Table A → Bool
+lettered [] = true
+lettered (e ∷ es) = letterFirst (e .0) && lettered es
 
-abbrev pub at-terms : List Token
-at-terms = signs "+-"
+differs : (v w : List ℕ) → T (not (begins isDigit v)) → T (begins isDigit w) → sameList eqb v w ≡ false
+differs [] [] h k = absurd k
+differs [] (c ∷ w) h k = refl
+differs (d ∷ v) [] h k = refl
+differs (d ∷ v) (c ∷ w) h k =
+    rw (is-false (eqb d c) (not-T (eqb d c) (λ e. T-not (isDigit c) (rw (eqb→eq d c e) at h) k)))
 
-abbrev pub at-factors : List Token
-at-factors = signs "*"
+module _ (w : List ℕ) (ts : List Token) (k : T (begins isDigit w)) where
+  not-after : (ns : List Token) → T (letterFirst ns) → after ns (word w ∷ ts) ≡ none
+  not-after [] h = absurd h
+  not-after (sign c ∷ ns) h = absurd h
+  not-after (word v ∷ ns) h = rw (differs v w h k)
 
--- what no sum holds, what no term holds, and what no factor holds
-abbrev pub around-sums : List Token
-around-sums = at-forms ++ at-operands
+  not-same : (ns : List Token) → T (letterFirst ns) → sameList sameToken ns (word w ∷ ts) ≡ false
+  not-same [] h = absurd h
+  not-same (sign c ∷ ns) h = absurd h
+  not-same (word v ∷ ns) h = rw (differs v w h k)
 
-abbrev pub around-terms : List Token
-around-terms = at-terms ++ around-sums
+  none-in-front : {A : Type 0} (es : Table A) → T (lettered es) → front es (word w ∷ ts) ≡ (none, word w ∷ ts)
+  none-in-front [] h = refl
+  none-in-front (e ∷ es) h =
+      let (a, b) = both (letterFirst (e .0)) (lettered es) h in
+      rw (not-after (e .0) a, front) (none-in-front es b)
 
-abbrev pub around-factors : List Token
-around-factors = at-factors ++ around-terms
+  not-found : {A : Type 0} (es : Table A) → T (lettered es) → lookup es (word w ∷ ts) ≡ none
+  not-found [] h = refl
+  not-found (e ∷ es) h =
+      let (a, b) = both (letterFirst (e .0)) (lettered es) h in
+      rw (not-same (e .0) a) (not-found es b)
 
--- ---- Terms and sums
+  no-width : front widths (word w ∷ ts) ≡ (none, word w ∷ ts)
+  unfolding widths
+  no-width = none-in-front widths tt
 
--- the text names the register `r`
-pub record RegisterText (r : Register) (u : List ℕ) : Type 0 where
-  pub unparted : T (free around-factors (tokens u))
-  pub no-number : number (tokens u) ≡ none
-  pub names : lookup registers (tokens u) ≡ some r
+  no-type : front (labels ++ synonyms) (word w ∷ ts) ≡ (none, word w ∷ ts)
+  unfolding labels synonyms
+  no-type = none-in-front (labels ++ synonyms) tt
 
--- the text is a term of a sum
-pub record TermText (a : Sum) (u : List ℕ) : Type 0 where
-  pub unparted : T (free around-terms (tokens u))
-  pub reads : term (sign 43) (tokens u) ≡ some a
+  no-prefix-segment : front segments (word w ∷ ts) ≡ (none, word w ∷ ts)
+  unfolding segments
+  no-prefix-segment = none-in-front segments tt
 
--- the text is a sum
-pub record SumText (a : Sum) (u : List ℕ) : Type 0 where
-  pub unparted : T (free around-sums (tokens u))
-  pub reads : sum (sign 43) (cut at-terms (tokens u)) ≡ some a
-
--- a number is cut nowhere
-number-unparted : {n : ℕ} {u : List ℕ} → NumberText n u → T (free around-factors (tokens u))
-number-unparted t = rw (t .one-token) (t .unparted)
-
-pub number-term : {n : ℕ} {u : List ℕ} → NumberText n u → TermText (constant n) u
-number-term {n} {u} t =
-    let (a, b) = free-of at-factors around-terms (tokens u) (number-unparted t) in
-    record { unparted = b; reads = rw (t .one-token, t .value) }
-
-pub register-term : {r : Register} {u : List ℕ} → RegisterText r u → TermText (multiple r 1) u
-register-term {r} {u} t =
-    let (a, b) = free-of at-factors around-terms (tokens u) (t .unparted) in
-    record { unparted = b; reads = rw (t .no-number, cut-end at-factors (tokens u) a, t .names) }
-
--- more than one token is no number
-number-parted : (ts : List Token) (c : ℕ) (us : List Token) → number (ts ++ sign c ∷ us) ≡ none
-number-parted [] c us = refl
-number-parted (sign d ∷ ts) c us = refl
-number-parted (word w ∷ []) c us = refl
-number-parted (word w ∷ t ∷ ts) c us = refl
-
-pub scaled-term : {r n : ℕ} {u v : List ℕ} → RegisterText r u → NumberText n v → TermText (multiple r n) (u ++ (bytes " * " ++ v))
-scaled-term {r} {n} {u} {v} s t =
-    let (a, b) = free-of at-factors around-terms (tokens u) (s .unparted) in
-    let e = sign-between u 42 v refl refl in
-    record {
-      unparted = rw e (free-append around-terms (tokens u) (sign 42 ∷ tokens v) b (number-term t .unparted));
-      reads =
-          rw (
-            e,
-            number-parted (tokens u) 42 (tokens v),
-            cut-at at-factors (tokens u) (sign 42) (tokens v) a refl,
-            t .one-token,
-            s .names,
-            t .value,
-          );
-    }
-
-pub term-sum : {a : Sum} {u : List ℕ} → TermText a u → SumText a u
-term-sum {a} {u} t =
-    let (x, y) = free-of at-terms around-sums (tokens u) (t .unparted) in
-    record { unparted = y; reads = rw (cut-end at-terms (tokens u) x, t .reads) }
-
-pub plus-sum : {a b : Sum} {u v : List ℕ} → TermText a u → SumText b v → SumText (plus a b) (u ++ (bytes " + " ++ v))
-plus-sum {a} {b} {u} {v} s t =
-    let (x, y) = free-of at-terms around-sums (tokens u) (s .unparted) in
-    let e = sign-between u 43 v refl refl in
-    record {
-      unparted = rw e (free-append around-sums (tokens u) (sign 43 ∷ tokens v) y (t .unparted));
-      reads = rw (e, cut-at at-terms (tokens u) (sign 43) (tokens v) x refl, s .reads, t .reads);
-    }
-
--- what a number adds behind `+`, and behind `-`
-abbrev pub moved : (minus : Bool) → ℕ → ℕ
-moved false n = n
-moved true n = 2 ^ 32 - n % 2 ^ 32
-
-pub displaced-sum : {a : Sum} {n : ℕ} {u v : List ℕ} (minus : Bool) → TermText a u → NumberText n v
-    → SumText (plus a (constant (moved minus n))) (u ++ (32 ∷ cond minus 45 43 ∷ 32 ∷ v))
-displaced-sum false s t = plus-sum s (term-sum (number-term t))
-displaced-sum {a} {n} {u} {v} true s t =
-    let (x, y) = free-of at-terms around-sums (tokens u) (s .unparted) in
-    let e = sign-between u 45 v refl refl in
-    record {
-      unparted = rw e (free-append around-sums (tokens u) (sign 45 ∷ tokens v) y (term-sum (number-term t) .unparted));
-      reads = rw (e, cut-at at-terms (tokens u) (sign 45) (tokens v) x refl, s .reads, t .one-token, t .value);
-    }
-
--- a number counts no register, and a register adds no number
-pub times-constant : (a : Sum) (n : ℕ) → plus a (constant n) .times ≡ a .times
-times-constant a n = fun-ext (λ r. add-zero (a .times r))
-
-pub disp-multiple : (r : Register) (n : ℕ) (b : Sum) → plus (multiple r n) b .disp ≡ b .disp
-disp-multiple r n b = zero-add (b .disp)
+  no-register : lookup registers (word w ∷ ts) ≡ none
+  unfolding registers
+  no-register = not-found registers tt
 
 -- ---- Operands
 
 -- the text is an operand
 pub record OperandText (start : ℕ) (o : Operand) (u : List ℕ) : Type 0 where
-  pub unparted : T (free at-operands (tokens u))
+  pub plainly : T (plain (tokens u))
   pub reads : operand start (tokens u) ≡ some o
 
 pub number-operand : {start n : ℕ} {u : List ℕ} → NumberText n u → OperandText start (immediate (n % 2 ^ 32)) u
 number-operand {start} {n} {u} t =
-    let (a, b) = free-of at-forms at-operands (tokens u) (term-sum (number-term t) .unparted) in
-    record { unparted = b; reads = rw (cut-end at-forms (tokens u) a, t .one-token, t .value) }
+    let w = t .spelling in
+    let d = t .digit in
+    record {
+      plainly = rw (t .one-token) tt;
+      reads =
+          rw (t .one-token, no-width w [] d, no-type w [] d, no-register w [] d, no-prefix-segment w [] d, ← (t .one-token), number-value t);
+    }
 
-pub register-operand : {start r : ℕ} {u : List ℕ} → RegisterText r u → OperandText start (register r) u
-register-operand {start} {r} {u} t =
-    let (a, b) = free-of at-forms at-operands (tokens u) (term-sum (register-term t) .unparted) in
-    record { unparted = b; reads = rw (cut-end at-forms (tokens u) a, t .no-number, t .names) }
+-- the text names the register `r`
+pub record RegisterOperandText (r : Register) (u : List ℕ) : Type 0 where
+  pub plainly : T (plain (tokens u))
+  pub reads : (start : ℕ) → operand start (tokens u) ≡ some (register r)
 
--- the tokens of a branch target
+pub register-operand : {start r : ℕ} {u : List ℕ} → RegisterOperandText r u → OperandText start (register r) u
+register-operand {start} t = record { plainly = t .plainly; reads = t .reads start }
+
+-- a branch target: perhaps `near ptr`, `$`, a sign and a number
+abbrev pub near-or-not : Bool → Option Width
+near-or-not near = cond near (some Near) none
+
 abbrev from-dollar : (near minus : Bool) → List Token → List Token
-from-dollar near minus ts = cond near (word (bytes "near") ∷ ptr ∷ []) [] ++ (sign 36 ∷ sign (cond minus 45 43) ∷ ts)
+from-dollar near minus ts =
+    cond near (word (bytes "near") ∷ word (bytes "ptr") ∷ []) [] ++ (word (bytes "$") ∷ sign (cond minus 45 43) ∷ ts)
 
-branch-split : (near minus : Bool) (u : List ℕ) → tokens (cond near (bytes "near ptr ") [] ++ (36 ∷ cond minus 45 43 ∷ u)) ≡ from-dollar near minus (tokens u)
+branch-split : (near minus : Bool) (u : List ℕ)
+    → tokens (cond near (bytes "near ptr ") [] ++ (36 ∷ cond minus 45 43 ∷ u)) ≡ from-dollar near minus (tokens u)
 unfolding tokens
 branch-split false false u = refl
 branch-split false true u = refl
 branch-split true false u = refl
 branch-split true true u = refl
 
-branch-reads : (start n : ℕ) (ts : List Token) (near minus : Bool) → T (free at-forms ts) → number ts ≡ some n
-    → operand start (from-dollar near minus ts) ≡ some (branch near ((start + moved minus n) % 2 ^ 32))
-unfolding registers
-branch-reads start n ts false false h e = rw (cut-end at-forms ts h, e)
-branch-reads start n ts false true h e = rw (cut-end at-forms ts h, e)
-branch-reads start n ts true false h e = rw (cut-end at-forms ts h, e)
-branch-reads start n ts true true h e = rw (cut-end at-forms ts h, e)
+branch-typed : (start c : ℕ) (near : Bool) (ts : List Token)
+    → operand start (cond near (word (bytes "near") ∷ word (bytes "ptr") ∷ []) [] ++ (word (bytes "$") ∷ sign c ∷ ts))
+    ≡ (expression (word (bytes "$") ∷ sign c ∷ ts) >>= λ v. cond (v .bracket || false) (addressOf (near-or-not near) none none v) (plainOf start (near-or-not near) none v))
+unfolding widths labels synonyms segments registers
+branch-typed start c false ts = refl
+branch-typed start c true ts = refl
 
-branch-unparted : (ts : List Token) (near minus : Bool) → T (free at-operands ts) → T (free at-operands (from-dollar near minus ts))
-branch-unparted ts false false h = h
-branch-unparted ts false true h = h
-branch-unparted ts true false h = h
-branch-unparted ts true true h = h
+branch-plain : (ts : List Token) (near minus : Bool) → T (plain ts) → T (plain (from-dollar near minus ts))
+branch-plain ts false false h = h
+branch-plain ts false true h = h
+branch-plain ts true false h = h
+branch-plain ts true true h = h
 
 pub branch-operand : {start n : ℕ} {u : List ℕ} (near minus : Bool) → NumberText n u
-    → OperandText start (branch near ((start + moved minus n) % 2 ^ 32)) (cond near (bytes "near ptr ") [] ++ (36 ∷ cond minus 45 43 ∷ u))
+    → OperandText start (branch (near-or-not near) (wrapped (pos start +ℤ cond minus (negℤ (pos n)) (pos n))))
+    (cond near (bytes "near ptr ") [] ++ (36 ∷ cond minus 45 43 ∷ u))
 branch-operand {start} {n} {u} near minus t =
-    let (a, b) = free-of at-forms at-operands (tokens u) (term-sum (number-term t) .unparted) in
     let e = branch-split near minus u in
     record {
-      unparted = rw e (branch-unparted (tokens u) near minus b);
-      reads = rw e (branch-reads start n (tokens u) near minus a (rw (t .one-token, t .value)));
+      plainly = rw e (branch-plain (tokens u) near minus (rw (t .one-token) tt));
+      reads =
+          rw (e, branch-typed start (cond minus 45 43) near (tokens u), dollar-value minus t, +ℤ-idl (cond minus (negℤ (pos n)) (pos n)));
     }
 
-abbrev bracketed : List Token → List Token
-bracketed ts = sign 91 ∷ ts ++ (sign 93 ∷ [])
+-- ---- Addresses
 
--- the text is a label with `ptr`, or nothing
-pub record LabelText (l : Label) (t : List ℕ) : Type 0 where
-  pub lead : List Token
-  pub leads : Leads lead t
-  pub unparted : T (free at-operands lead)
-  pub names : (start : ℕ) (segment inside : List Token) → T (free at-forms segment) → T (free at-forms inside)
-      → operand start (lead ++ (segment ++ bracketed inside)) ≡ addressOf (some l) segment inside
+-- a bracket after these tokens has no type before it
+abbrev pub Untyped : List Token → Type 0
+Untyped lead = (start : ℕ) (ts : List Token) → operand start (lead ++ sign 91 ∷ ts) ≡ typed start none none (lead ++ sign 91 ∷ ts)
 
-cut-bracket : (segment inside : List Token) → T (free at-forms segment) → T (free at-forms inside)
-    → cut at-forms (segment ++ bracketed inside) ≡ part segment (sign 91) (part inside (sign 93) (end []))
-cut-bracket segment inside h k =
-    rw (cut-at at-forms segment (sign 91) (inside ++ (sign 93 ∷ [])) h refl, cut-at at-forms inside (sign 93) [] k refl)
-
-pub no-label : LabelText Unlabelled []
-no-label =
-    record { lead = []; leads = λ u. refl; unparted = tt; names = λ start segment inside h k. rw (cut-bracket segment inside h k) }
-
-pub some-label : {l : Label} {t : List ℕ} (w : List ℕ) → Leads (word w ∷ ptr ∷ []) t → T (free at-forms (word w ∷ [])) → lookup labels (word w ∷ []) ≡ some l
-    → LabelText l t
-some-label w leads f e =
-    record {
-      lead = word w ∷ ptr ∷ [];
-      leads = leads;
-      unparted = tt;
-      names = λ start segment inside h k.
-          rw (cut-at at-forms (word w ∷ []) ptr (segment ++ bracketed inside) f refl, cut-bracket segment inside h k, e);
-    }
+-- a bracket after these tokens has the segment `s`
+abbrev pub Segmented : List Token → Option Register → Type 0
+Segmented lead s =
+    (start : ℕ) (l : Option Label) (ts : List Token)
+    → typed start none l (lead ++ sign 91 ∷ ts)
+    ≡ (expression (sign 91 ∷ ts) >>= λ v. cond (v .bracket || isSaid s) (addressOf none l s v) (plainOf start none l v))
 
 -- the text is a segment register with its colon, or nothing
 pub record SegmentText (s : Option Register) (t : List ℕ) : Type 0 where
   pub lead : List Token
   pub leads : Leads lead t
-  pub unparted : T (free around-sums lead)
-  pub names : lookup segments lead ≡ some s
+  pub plainly : T (plain lead)
+  pub untyped : Untyped lead
+  pub names : Segmented lead s
 
-bracket-split : (u : List ℕ) → tokens (91 ∷ u ++ (93 ∷ [])) ≡ bracketed (tokens u)
+-- the text is a label with `ptr`, or nothing
+pub record LabelText (l : Option Label) (t : List ℕ) : Type 0 where
+  pub lead : List Token
+  pub leads : Leads lead t
+  pub plainly : T (plain lead)
+  pub names : {s : Option Register} {v : List ℕ} (y : SegmentText s v) (start : ℕ) (ts : List Token)
+      → operand start (lead ++ (y .lead ++ sign 91 ∷ ts)) ≡ typed start none l (y .lead ++ sign 91 ∷ ts)
+
+pub no-label : LabelText none []
+no-label = record { lead = []; leads = λ u. refl; plainly = tt; names = λ y start ts. y .untyped start ts }
+
+bracket-split : (u : List ℕ) → tokens (91 ∷ u ++ (93 ∷ [])) ≡ sign 91 ∷ tokens u ++ (sign 93 ∷ [])
 unfolding tokens
 bracket-split u = ap (λ ts. sign 91 ∷ ts) (tokens-append u 93 [] refl)
 
-pub address-operand : {start : ℕ} {l : Label} {s : Option Register} {a : Sum} {t v u : List ℕ} → LabelText l t → SegmentText s v → SumText a u
-    → OperandText start (address l s (a .times) (a .disp % 2 ^ 32)) (t ++ (v ++ (91 ∷ u ++ (93 ∷ []))))
-address-operand {start} {l} {s} {a} {t} {v} {u} x y z =
-    let e : tokens (t ++ (v ++ (91 ∷ u ++ (93 ∷ [])))) ≡ x .lead ++ (y .lead ++ bracketed (tokens u))
+pub address-operand : {start : ℕ} {l : Option Label} {s : Option Register} {f : Value → Value} {t v u : List ℕ} → LabelText l t → SegmentText s v
+    → SumText f u → f zero .starts ≡ 0
+    → OperandText start (address l s (timesIn (f zero .counts)) (wrapped (f zero .number))) (t ++ (v ++ (91 ∷ u ++ (93 ∷ []))))
+address-operand {start} {l} {s} {f} {t} {v} {u} x y z none-started =
+    let inside = tokens u ++ (sign 93 ∷ []) in
+    let e : tokens (t ++ (v ++ (91 ∷ u ++ (93 ∷ [])))) ≡ x .lead ++ (y .lead ++ sign 91 ∷ inside)
     = rw (x .leads, y .leads, bracket-split u) in
-    let (yf, yo) = free-of at-forms at-operands (y .lead) (y .unparted) in
-    let (zf, zo) = free-of at-forms at-operands (tokens u) (z .unparted) in
-    let b = free-append at-operands (y .lead) (bracketed (tokens u)) yo (free-append at-operands (tokens u) (sign 93 ∷ []) zo tt) in
+    let p = plain-append (tokens u) (sign 93 ∷ []) (z .plainly) tt in
     record {
-      unparted = rw e (free-append at-operands (x .lead) (y .lead ++ bracketed (tokens u)) (x .unparted) b);
-      reads = rw (e, x .names start (y .lead) (tokens u) yf zf, y .names, z .reads);
+      plainly =
+          rw e (plain-append (x .lead) (y .lead ++ sign 91 ∷ inside) (x .plainly) (plain-append (y .lead) (sign 91 ∷ inside) (y .plainly) p));
+      reads = rw (e, x .names y start inside, y .names start l inside, bracket-value z, none-started);
     }
 
--- the text is operands with commas between them
+-- ---- Operands with commas between them
+
 pub record OperandsText (start : ℕ) (os : List Operand) (u : List ℕ) : Type 0 where
-  pub reads : between-commas start (cut at-operands (tokens u)) ≡ some os
+  pub quietly : T (quiet (tokens u))
+  pub reads : each (operand start) (parts (tokens u)) ≡ some os
 
 pub one-operand : {start : ℕ} {o : Operand} {u : List ℕ} → OperandText start o u → OperandsText start (o ∷ []) u
-one-operand {start} {o} {u} t = record { reads = rw (cut-end at-operands (tokens u) (t .unparted), t .reads) }
+one-operand {start} {o} {u} t =
+    record {
+      quietly = plain-quiet (tokens u) (t .plainly);
+      reads = rw (one-part (tokens u) (no-comma (tokens u) (t .plainly)), t .reads);
+    }
 
 pub more-operands : {start : ℕ} {o : Operand} {os : List Operand} {u v : List ℕ} → OperandText start o u → OperandsText start os v
     → OperandsText start (o ∷ os) (u ++ (bytes ", " ++ v))
 more-operands {start} {o} {os} {u} {v} s t =
-    record { reads = rw (comma-between u v, cut-at at-operands (tokens u) (sign 44) (tokens v) (s .unparted) refl, s .reads, t .reads) }
+    let e = comma-between u v in
+    record {
+      quietly = rw e (quiet-append (tokens u) (sign 44 ∷ tokens v) (plain-quiet (tokens u) (s .plainly)) (t .quietly));
+      reads = rw (e, part-before-comma (tokens u) (tokens v) (no-comma (tokens u) (s .plainly)), s .reads, t .reads);
+    }
 
 -- ---- Lines
 
@@ -266,24 +227,27 @@ pub record PrefixText (p : Prefix) (t : List ℕ) : Type 0 where
 
 -- the text is a line
 pub record LineText (start : ℕ) (l : Line) (u : List ℕ) : Type 0 where
+  pub quietly : T (quiet (tokens u))
   pub reads : line start (tokens u) ≡ some l
 
 line-at : (start : ℕ) (w : List ℕ) (ts : List Token) → lookup prefixWords (word w ∷ []) ≡ none
     → line start (word w ∷ ts) ≡ instruction start w ts
 line-at start w ts e = rw (e, line)
 
-line-behind : (start : ℕ) (w : List ℕ) (ts : List Token) (p : Prefix) → lookup prefixWords (word w ∷ []) ≡ some p
+line-after : (start : ℕ) (w : List ℕ) (ts : List Token) (p : Prefix) → lookup prefixWords (word w ∷ []) ≡ some p
     → line start (word w ∷ ts) ≡ Option·map (prefixed p) (line start ts)
-line-behind start w ts p e = rw (e, line)
+line-after start w ts p e = rw (e, line)
 
 pub bare-line : {start : ℕ} {m u : List ℕ} → MnemonicText m u → LineText start (record { prefixes = []; mnemonic = m; operands = [] }) u
 bare-line {start} {m} {u} t =
-    record { reads = rw (t .one-token, line-at start m [] (t .no-prefix), is-true (begins isLetter m) (t .letter)) }
+    record {
+      quietly = rw (t .one-token) tt;
+      reads = rw (t .one-token, line-at start m [] (t .no-prefix), is-true (begins isLetter m) (t .letter));
+    }
 
 -- operands are read from some tokens
-operands-there : (start : ℕ) (os : List Operand) (ts : List Token) → between-commas start (cut at-operands ts) ≡ some os
-    → operandsOf start ts ≡ some os
-unfolding tokens registers
+operands-there : (start : ℕ) (os : List Operand) (ts : List Token) → each (operand start) (parts ts) ≡ some os → operandsOf start ts ≡ some os
+unfolding widths labels synonyms segments registers expression
 operands-there start os [] e = absurd (Option·none-ne-some os e)
 operands-there start os (t ∷ ts) e = e
 
@@ -291,13 +255,28 @@ pub full-line : {start : ℕ} {m u : List ℕ} {os : List Operand} {v : List ℕ
     → LineText start (record { prefixes = []; mnemonic = m; operands = os }) (u ++ 32 ∷ v)
 full-line {start} {m} {u} {os} {v} s t =
     let e = operands-there start os (tokens v) (t .reads) in
-    record { reads = rw (blank-between u v, s .one-token, line-at start m (tokens v) (s .no-prefix), is-true (begins isLetter m) (s .letter), e) }
+    record {
+      quietly = rw (blank-between u v, s .one-token) (t .quietly);
+      reads = rw (blank-between u v, s .one-token, line-at start m (tokens v) (s .no-prefix), is-true (begins isLetter m) (s .letter), e);
+    }
 
 pub prefixed-line : {start : ℕ} {p : Prefix} {l : Line} {t u : List ℕ} → PrefixText p t → LineText start l u
     → LineText start (prefixed p l) (t ++ u)
 prefixed-line {start} {p} {l} {t} {u} s k =
-    record { reads = rw (s .leads u, line-behind start (s .lead) (tokens u) p (s .names), k .reads) }
+    record {
+      quietly = rw (s .leads u) (k .quietly);
+      reads = rw (s .leads u, line-after start (s .lead) (tokens u) p (s .names), k .reads);
+    }
 
-pub line-read : {start : ℕ} {l : Line} {u : List ℕ} → LineText start l u → read start u ≡ some l
+-- a line that is read from some tokens is their reading
+tokens-there : (start : ℕ) (l : Line) (ts : List Token) → line start ts ≡ some l → readTokens start ts ≡ shows l
+tokens-there start l [] e = absurd (Option·none-ne-some l e)
+tokens-there start l (t ∷ ts) e = rw (e, readTokens)
+
+pub line-read : {start : ℕ} {l : Line} {u : List ℕ} → LineText start l u → read start u ≡ shows l
 unfolding read
-line-read t = t .reads
+line-read {start} {l} {u} t = rw (quiet-uncommented (tokens u) (t .quietly)) (tokens-there start l (tokens u) (t .reads))
+
+-- and it is one line of text
+pub line-unbroken : {start : ℕ} {l : Line} {u : List ℕ} → LineText start l u → T (unbroken u)
+line-unbroken {u = u} t = quiet-unbroken u (t .quietly)

@@ -1,12 +1,12 @@
--- Laws of tokens and of cutting: how the tokens of a text are those of its parts, and where a list of tokens is cut.
+-- Laws of tokens: how the tokens of a text are those of its parts, where its comment begins, and where its commas stand.
 use mathlib.Core.Path.{_≡_, refl, ap, sym, _∙_}
-use mathlib.Core.Bool.{Bool, true, false, cond, not, _&&_, _||_}
+use mathlib.Core.Bool.{Bool, true, false, cond, not, _&&_, true≢false}
 use mathlib.Core.List.{List, [], _∷_, _++_, map, append-assoc, append-nil}
 use Prim.Native.Nat.{ℕ}
-use lib.Dec.{T}
+use lib.Dec.{T, not-T, eqb, eqb→eq}
 use lib.Ieee.Bits.{is-true, is-false}
-use Rattle.masm.specs.Tokens.{isWord, isBlank, small, Token, word, sign, close, tokensFrom, tokens, sameToken, among, end, part, cut}
-use Rattle.masm.specs.Operands.{begins}
+use Rattle.masm.specs.Tokens.{isWord, isBlank, small, Token, word, sign, close, tokensFrom, tokens, sameToken, uncommented, parts}
+use Rattle.masm.specs.Expressions.{begins}
 
 -- ---- Tokens
 
@@ -117,46 +117,99 @@ unfolding tokens
 one-word p [] h k = absurd k
 one-word p (c ∷ u) h k = from-word [] (c ∷ u) h
 
--- ---- Cutting
+-- ---- Comments and commas
 
--- no token of a list is one of the separators
-abbrev pub free : List Token → List Token → Bool
-free separators [] = true
-free separators (t ∷ ts) = not (among t separators) && free separators ts
+-- no token is the sign `c`
+abbrev pub free : ℕ → List Token → Bool
+free c [] = true
+free c (t ∷ ts) = not (sameToken t (sign c)) && free c ts
 
-pub free-append : (seps ts us : List Token) → T (free seps ts) → T (free seps us) → T (free seps (ts ++ us))
-free-append seps [] us h k = k
-free-append seps (t ∷ ts) us h k =
-    let (a, b) = both (not (among t seps)) (free seps ts) h in
-    pair (not (among t seps)) (free seps (ts ++ us)) a (free-append seps ts us b k)
+pub free-append : (c : ℕ) (ts us : List Token) → T (free c ts) → T (free c us) → T (free c (ts ++ us))
+free-append c [] us h k = k
+free-append c (t ∷ ts) us h k =
+    let (a, b) = both (not (sameToken t (sign c))) (free c ts) h in
+    pair (not (sameToken t (sign c))) (free c (ts ++ us)) a (free-append c ts us b k)
 
-among-append : (t : Token) (a b : List Token) → T (not (among t (a ++ b))) → T (not (among t a)) × T (not (among t b))
-among-append t [] b h = (tt, h)
-among-append t (u ∷ a) b h = go (sameToken t u) h (among-append t a b)
-  where
-    go : (x : Bool) → T (not (x || among t (a ++ b))) → (T (not (among t (a ++ b))) → T (not (among t a)) × T (not (among t b)))
-        → T (not (x || among t a)) × T (not (among t b))
-    go true k f = absurd k
-    go false k f = f k
+-- neither a comment nor a newline
+abbrev pub quiet : List Token → Bool
+quiet ts = free 59 ts && free 10 ts
 
--- free of more separators is free of some of them
-pub free-of : (a b ts : List Token) → T (free (a ++ b) ts) → T (free a ts) × T (free b ts)
-free-of a b [] h = (tt, tt)
-free-of a b (t ∷ ts) h =
-    let (x, y) = both (not (among t (a ++ b))) (free (a ++ b) ts) h in
-    let (p, q) = among-append t a b x in
-    let (r, s) = free-of a b ts y in
-    (pair (not (among t a)) (free a ts) p r, pair (not (among t b)) (free b ts) q s)
+pub quiet-append : (ts us : List Token) → T (quiet ts) → T (quiet us) → T (quiet (ts ++ us))
+quiet-append ts us h k =
+    let (a, b) = both (free 59 ts) (free 10 ts) h in
+    let (x, y) = both (free 59 us) (free 10 us) k in
+    pair (free 59 (ts ++ us)) (free 10 (ts ++ us)) (free-append 59 ts us a x) (free-append 10 ts us b y)
 
-pub cut-end : (seps ts : List Token) → T (free seps ts) → cut seps ts ≡ end ts
-cut-end seps [] h = refl
-cut-end seps (t ∷ ts) h =
-    let (a, b) = both (not (among t seps)) (free seps ts) h in
-    rw (is-false (among t seps) a, cut-end seps ts b)
+-- and no comma
+abbrev pub plain : List Token → Bool
+plain ts = free 44 ts && quiet ts
 
-pub cut-at : (seps ts : List Token) (s : Token) (us : List Token) → T (free seps ts) → among s seps ≡ true
-    → cut seps (ts ++ s ∷ us) ≡ part ts s (cut seps us)
-cut-at seps [] s us h k = rw k
-cut-at seps (t ∷ ts) s us h k =
-    let (a, b) = both (not (among t seps)) (free seps ts) h in
-    rw (is-false (among t seps) a, cut-at seps ts s us b k)
+pub plain-append : (ts us : List Token) → T (plain ts) → T (plain us) → T (plain (ts ++ us))
+plain-append ts us h k =
+    let (a, b) = both (free 44 ts) (quiet ts) h in
+    let (x, y) = both (free 44 us) (quiet us) k in
+    pair (free 44 (ts ++ us)) (quiet (ts ++ us)) (free-append 44 ts us a x) (quiet-append ts us b y)
+
+pub no-comma : (ts : List Token) → T (plain ts) → T (free 44 ts)
+no-comma ts h = both (free 44 ts) (quiet ts) h .0
+
+pub plain-quiet : (ts : List Token) → T (plain ts) → T (quiet ts)
+plain-quiet ts h = both (free 44 ts) (quiet ts) h .1
+
+-- Without `;` all tokens count.
+uncommented-all : (ts : List Token) → T (free 59 ts) → uncommented ts ≡ ts
+uncommented-all [] h = refl
+uncommented-all (t ∷ ts) h =
+    let (a, b) = both (not (sameToken t (sign 59))) (free 59 ts) h in
+    rw (is-false (sameToken t (sign 59)) a, uncommented-all ts b)
+
+pub quiet-uncommented : (ts : List Token) → T (quiet ts) → uncommented ts ≡ ts
+quiet-uncommented ts h = uncommented-all ts (both (free 59 ts) (free 10 ts) h .0)
+
+-- A sign that is no token of a text is no character of it.
+module _ (c : ℕ) (no-word : isWord c ≡ false) (no-blank : isBlank c ≡ false) where
+  other : (f : ℕ → Bool) (d : ℕ) → f c ≡ false → f d ≡ true → T (not (eqb d c))
+  other f d n e = not-T (eqb d c) (λ k. true≢false (sym e ∙ ap f (eqb→eq d c k) ∙ n))
+
+  free-close : (w : List ℕ) (ts : List Token) → T (free c (close w ts)) → T (free c ts)
+  free-close [] ts h = h
+  free-close (d ∷ w) ts h = h
+
+  from-free : (w u : List ℕ) → T (free c (tokensFrom w u)) → T (all (λ d. not (eqb d c)) u)
+  from-free w [] h = tt
+  from-free w (d ∷ u) h = go (isWord d) refl (λ v. from-free v u)
+    where
+      after-it : (blank : Bool) → isBlank d ≡ blank → (T (free c (tokensFrom [] u)) → T (all (λ d. not (eqb d c)) u))
+          → T (free c (cond blank (tokensFrom [] u) (sign d ∷ tokensFrom [] u))) → T (not (eqb d c) && all (λ d. not (eqb d c)) u)
+      after-it true e rest k = pair (not (eqb d c)) (all (λ d. not (eqb d c)) u) (other isBlank d no-blank e) (rest k)
+      after-it false e rest k =
+          let (a, b) = both (not (eqb d c)) (free c (tokensFrom [] u)) k in
+          pair (not (eqb d c)) (all (λ d. not (eqb d c)) u) a (rest b)
+
+      go : (b : Bool) → isWord d ≡ b → ((v : List ℕ) → T (free c (tokensFrom v u)) → T (all (λ d. not (eqb d c)) u))
+          → T (not (eqb d c) && all (λ d. not (eqb d c)) u)
+      go true e rest =
+          pair (not (eqb d c)) (all (λ d. not (eqb d c)) u) (other isWord d no-word e) (rest (w ++ (small d ∷ [])) (rw (lengthens w d u e) at h))
+      go false e rest =
+          after-it (isBlank d) refl (rest [])
+          (free-close w (cond (isBlank d) (tokensFrom [] u) (sign d ∷ tokensFrom [] u)) (rw (ends w d u e) at h))
+
+-- one line: no character is a newline
+abbrev pub unbroken : List ℕ → Bool
+unbroken t = all (λ d. not (eqb d 10)) t
+
+pub quiet-unbroken : (u : List ℕ) → T (quiet (tokens u)) → T (unbroken u)
+unfolding tokens
+quiet-unbroken u h = from-free 10 refl refl [] u (both (free 59 (tokens u)) (free 10 (tokens u)) h .1)
+
+pub one-part : (ts : List Token) → T (free 44 ts) → parts ts ≡ ts ∷ []
+one-part [] h = refl
+one-part (t ∷ ts) h =
+    let (a, b) = both (not (sameToken t (sign 44))) (free 44 ts) h in
+    rw (is-false (sameToken t (sign 44)) a, one-part ts b)
+
+pub part-before-comma : (ts us : List Token) → T (free 44 ts) → parts (ts ++ sign 44 ∷ us) ≡ ts ∷ parts us
+part-before-comma [] us h = refl
+part-before-comma (t ∷ ts) us h =
+    let (a, b) = both (not (sameToken t (sign 44))) (free 44 ts) h in
+    rw (is-false (sameToken t (sign 44)) a, part-before-comma ts us b)

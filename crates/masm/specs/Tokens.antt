@@ -1,8 +1,8 @@
--- A line as words and signs, and the two ways in which the reader takes a list of them apart: it cuts the list at separators, or looks it
--- up as a whole in a table of quoted words. What the reader does not know it refuses: `none`.
+-- A line as words and signs, and the two ways in which the reader takes a list of them apart: at commas, or by a table of quoted words.
+-- What the reader does not know it refuses: `none`.
 -- Assumes nothing.
 use mathlib.Core.Bool.{Bool, true, false, cond, _&&_, _||_}
-use mathlib.Core.List.{List, [], _∷_, _++_, map}
+use mathlib.Core.List.{List, [], _∷_, _++_}
 use mathlib.Core.Option.{Option, none, some}
 use Prim.Native.Nat.{ℕ, _+_}
 use Prim.Native.String.{String, [] as empty, _∷_ as _▸_}
@@ -25,9 +25,9 @@ isDigit c = between "0" "9" c
 abbrev pub isLetter : ℕ → Bool
 isLetter c = between "a" "z" c || between "A" "Z" c
 
--- a character of a word
+-- a character of a word: `$`, `@` and `?` are letters of names too
 abbrev pub isWord : ℕ → Bool
-isWord c = isLetter c || isDigit c || eqb c (code "_")
+isWord c = isLetter c || isDigit c || eqb c (code "_") || eqb c (code "$") || eqb c (code "@") || eqb c (code "?")
 
 abbrev pub isBlank : ℕ → Bool
 isBlank c = eqb c (code " ") || eqb c (code "\t")
@@ -36,7 +36,7 @@ isBlank c = eqb c (code " ") || eqb c (code "\t")
 abbrev pub small : ℕ → ℕ
 small c = cond (between "A" "Z" c) (c + 32) c
 
--- ---- Tokens: runs of letters, digits and `_` are words, blanks vanish, and any other character is a sign.
+-- ---- Tokens: runs of characters of words are words, blanks vanish, and any other character is a sign.
 -- A word is kept in small letters: MASM reads its own words in either case.
 
 pub data Token : Type 0 where
@@ -47,7 +47,7 @@ abbrev pub close : List ℕ → List Token → List Token
 close [] ts = ts
 close (c ∷ w) ts = word (c ∷ w) ∷ ts
 
--- the tokens of a text that stands right behind the letters `w` of a word
+-- the tokens of a text that stands right after the letters `w` of a word
 abbrev pub tokensFrom : List ℕ → List ℕ → List Token
 tokensFrom w [] = close w []
 tokensFrom w (c ∷ t) =
@@ -71,49 +71,57 @@ sameToken (word w) (sign d) = false
 sameToken (sign c) (word v) = false
 sameToken (sign c) (sign d) = eqb c d
 
-abbrev pub same : List Token → List Token → Bool
-same ts us = sameList sameToken ts us
+-- ---- Comments and commas
 
--- ---- Cutting at separators: the parts between them, each with the separator behind it
+-- `;` ends the line: what stands before it
+abbrev pub uncommented : List Token → List Token
+uncommented [] = []
+uncommented (t ∷ ts) = cond (sameToken t (sign (code ";"))) [] (t ∷ uncommented ts)
 
-pub data Parts : Type 0 where
-  end : List Token → Parts
-  part : List Token → Token → Parts → Parts
+abbrev pub lengthen : Token → List (List Token) → List (List Token)
+lengthen t [] = (t ∷ []) ∷ []
+lengthen t (p ∷ ps) = (t ∷ p) ∷ ps
 
-abbrev pub among : Token → List Token → Bool
-among t [] = false
-among t (u ∷ us) = sameToken t u || among t us
-
-abbrev pub lengthen : Token → Parts → Parts
-lengthen t (end us) = end (t ∷ us)
-lengthen t (part us s rest) = part (t ∷ us) s rest
-
-abbrev pub cut : List Token → List Token → Parts
-cut separators [] = end []
-cut separators (t ∷ ts) = cond (among t separators) (part [] t (cut separators ts)) (lengthen t (cut separators ts))
-
-abbrev pub signs : String → List Token
-signs s = map sign (bytes s)
+-- the parts between commas; there is at least one
+abbrev pub parts : List Token → List (List Token)
+parts [] = [] ∷ []
+parts (t ∷ ts) = cond (sameToken t (sign (code ","))) ([] ∷ parts ts) (lengthen t (parts ts))
 
 -- ---- Tables: names, quoted with commas between them, and what each of them means
 
 abbrev pub Table : Type 0 → Type 0
 Table A = List (List Token × A)
 
-abbrev pub entries : {A : Type 0} → Parts → List A → Table A
-entries names [] = []
-entries (end ts) (a ∷ more) = (ts, a) ∷ []
-entries (part ts s rest) (a ∷ more) = (ts, a) ∷ entries rest more
+abbrev pub entries : {A : Type 0} → List (List Token) → List A → Table A
+entries [] meanings = []
+entries (ts ∷ more) [] = []
+entries (ts ∷ more) (a ∷ meanings) = (ts, a) ∷ entries more meanings
 
 unfoldable pub table : {A : Type 0} → String → List A → Table A
 unfolding tokens
-table names meanings = entries (cut (signs ",") (tokens (bytes names))) meanings
+table names meanings = entries (parts (tokens (bytes names))) meanings
 
+-- what some tokens mean
 abbrev pub lookup : {A : Type 0} → Table A → List Token → Option A
 lookup [] ts = none
-lookup (e ∷ es) ts = cond (same (e .0) ts) (some (e .1)) (lookup es ts)
+lookup (e ∷ es) ts = cond (sameList sameToken (e .0) ts) (some (e .1)) (lookup es ts)
+
+-- what is left of the second list where the first one begins it
+abbrev pub after : List Token → List Token → Option (List Token)
+after [] ts = some ts
+after (u ∷ us) [] = none
+after (u ∷ us) (t ∷ ts) = cond (sameToken u t) (after us ts) none
+
+-- what the name in front of some tokens means, if one is there, and the tokens after it
+abbrev pub front : {A : Type 0} → Table A → List Token → Option A × List Token
+front [] ts = (none, ts)
+front (e ∷ es) ts = elim (after (e .0) ts) [ some rest ↦ (some (e .1), rest) | none ↦ front es ts ]
 
 -- ---- Answers that may be refusals
+
+abbrev pub isSaid : {A : Type 0} → Option A → Bool
+isSaid none = false
+isSaid (some a) = true
 
 -- the first of two answers that is no refusal
 abbrev pub orElse : {A : Type 0} → Option A → Option A → Option A
@@ -121,6 +129,15 @@ orElse none y = y
 orElse (some a) y = some a
 
 -- an answer made from another, and refused where that one is: each line `a ← x` of a `do` block
+infixl 1 _>>=_
 abbrev pub _>>=_ : {A B : Type 0} → Option A → (A → Option B) → Option B
 _>>=_ none f = none
 _>>=_ (some a) f = f a
+
+-- an answer for each, and refused where one is
+abbrev pub each : {A B : Type 0} → (A → Option B) → List A → Option (List B)
+each f [] = some []
+each f (x ∷ xs) = do
+  y ← f x
+  ys ← each f xs
+  some (y ∷ ys)

@@ -1,23 +1,17 @@
 -- Every operand that an arm shows of an accepted record is sound.
 -- Assumes nothing.
-use mathlib.Core.Path.{_≡_, sym, _∙_}
-use mathlib.Core.Bool.{Bool, true, false, cond, not, _&&_, _||_, true≢false}
-use Prim.Native.Nat.{ℕ}
-use native.Mathlib.Omega.{arith}
+use mathlib.Core.Path.{_≡_, refl, sym, _∙_}
+use mathlib.Core.Bool.{Bool, true, false, cond, not, _&&_, _||_, true≢false, or-false}
 use borrow.Author.Tests.{not-false}
 use lib.Dec.{eqb}
 use Rattle.operands.specs.Kinds.{isAbsent, isRegister, isRegisterR, isMemory}
-use Rattle.operands.specs.declared.Operand.{Operand}
+use Rattle.operands.specs.RegisterBytes.{isRegisterByte}
 use Rattle.operands.specs.declared.Instruction.{Instruction}
-use Rattle.operands.specs.declared.Label.the-variants.{Fword}
-use Rattle.operands.specs.declared.Item.{Item}
 use Rattle.operands.specs.declared.Items.{Items}
-use Rattle.bodies.specs.WellFormed.{Kept, WellFormed}
-use Rattle.bodies.proofs.Picks.{neither-right, picked}
-use Rattle.arms.specs.Parts.{labelled, sizeLabel, immediateKind, immediateOf, none, one, two, three}
-use Rattle.arms.specs.General.{generalLabel, general, generally, hasVector, laterWithoutDs}
-use Rattle.arms.specs.Rewritten.{isBranch, isXbegin, branch, lslSource, lsl, lssLabel, tbyteLabel, st, fadd, fbld}
-use Rattle.arms.specs.Shows.{itemsOf}
+use Rattle.bodies.specs.WellFormed.{WellFormed}
+use Rattle.bodies.proofs.Picks.{both-left, both-right, picked}
+use Rattle.branches.specs.declared.Mode.{Mode}
+use Rattle.names.specs.Among.{isArm}
 use Rattle.names.specs.declared.Arm.{Arm}
 use Rattle.names.specs.declared.Arm.the-variants.{
   General,
@@ -58,158 +52,98 @@ use Rattle.names.specs.declared.Arm.the-variants.{
   Fbld,
   Fbstp,
 }
-use Rattle.arrange.specs.Shape.{shapeRefused, lslRefused, noRegister}
-use Rattle.arrange.proofs.ByArm.{first-memory, at-lsl, at-lss, at-lods}
-use Rattle.readback.specs.Sound.{Named, SoundItem}
-use Rattle.readback.proofs.Kept.{
-  sound-nothing,
-  sound-named,
-  sound-plain,
-  sound-st,
-  sound-unsegmented,
-  sound-labelled,
-  sound-labelled-memory,
-  sound-without-ds,
-  source-named,
-  sound-branch,
-}
+use Rattle.places.specs.Places.{itemsAt}
+use Rattle.places.specs.declared.Place.the-variants as place
+use Rattle.places.specs.declared.Plan.{Plan}
+use Rattle.arms.specs.Tests.{isBranch, isXbegin, lslSource}
+use Rattle.arms.specs.Plans.{plain, st, named, none, one, two, spread, general, generally, planOf}
+use Rattle.arms.specs.Shape.{shapeRefused}
+use Rattle.arms.proofs.ByArm.{at-lsl}
+use Rattle.readback.proofs.Sound.{SoundItem}
+use Rattle.readback.proofs.Kept.{placeSound, sound-place}
 
--- ---- Four items
+-- ---- Plans
 
-pub record SoundItems (x : Items) : Type 0 where
-  pub a : SoundItem (x .a)
-  pub b : SoundItem (x .b)
-  pub c : SoundItem (x .c)
-  pub d : SoundItem (x .d)
+-- the arm shows a branch of this record
+abbrev pub branches : Arm → Instruction → Bool
+branches arm i = (isArm arm Branch && isBranch (i .a)) || (isArm arm Xbegin && isXbegin (i .a))
 
-three-sound : {x y z : Item} → SoundItem x → SoundItem y → SoundItem z → SoundItems (three x y z)
-three-sound s t u = record { a = s; b = t; c = u; d = sound-nothing }
-
-two-sound : {x y : Item} → SoundItem x → SoundItem y → SoundItems (two x y)
-two-sound s t = three-sound s t sound-nothing
-
-one-sound : {x : Item} → SoundItem x → SoundItems (one x)
-one-sound s = two-sound s sound-nothing
-
-none-sound : SoundItems none
-none-sound = one-sound sound-nothing
+abbrev planSound : (branches : Bool) → Plan → Bool
+planSound b plan = placeSound b (plan .a) && placeSound b (plan .b) && placeSound b (plan .c) && placeSound b (plan .d)
 
 -- either side of an arm's test
-either-sound : {x y : Items} (p : Bool) → (p ≡ true → SoundItems x) → (p ≡ false → SoundItems y) → SoundItems (cond p x y)
-either-sound {x} {y} p f g = picked SoundItems p x y f g
-
--- the registers that arms show by themselves
-eax : Named 0
-eax = record { below = omega arith; not-30 = λ e. omega arith; not-31 = λ e. omega arith }
-
-ecx : Named 1
-ecx = record { below = omega arith; not-30 = λ e. omega arith; not-31 = λ e. omega arith }
-
-edx : Named 2
-edx = record { below = omega arith; not-30 = λ e. omega arith; not-31 = λ e. omega arith }
-
-xmm0 : Named 48
-xmm0 = record { below = omega arith; not-30 = λ e. omega arith; not-31 = λ e. omega arith }
-
--- ---- Arms with a form of their own
-
-general-sound : (mmword first later : Bool) (i : Instruction) → WellFormed i → SoundItems (general mmword first later i)
-unfolding general
-general-sound mmword first later i w =
-    record {
-      a = sound-labelled-memory (generalLabel mmword first (i .size)) (i .a) (w .a);
-      b = sound-labelled-memory (generalLabel mmword later (i .size)) (i .b) (w .b);
-      c = sound-labelled-memory (generalLabel mmword later (i .size)) (i .c) (w .c);
-      d = sound-labelled-memory (generalLabel mmword later (i .size)) (i .d) (w .d);
-    }
-
-without-ds-sound : (x : Items) → SoundItems x → SoundItems (laterWithoutDs x)
-without-ds-sound x s =
-    record {
-      a = s .a;
-      b = sound-without-ds (x .b) (s .b);
-      c = sound-without-ds (x .c) (s .c);
-      d = sound-without-ds (x .d) (s .d);
-    }
-
-branch-sound : (straight : Bool) (i : Instruction) → WellFormed i → SoundItems (branch straight (i .length) (i .a))
-branch-sound straight i w = one-sound (sound-branch straight (immediateKind (i .a)) (immediateOf (i .a)) (i .length) (w .length-most))
+either-plan : (arm : Arm) (i : Instruction) (p : Bool) (x y : Plan) → (p ≡ true → planSound (branches arm i) x ≡ true) → (p ≡ false → planSound (branches arm i) y ≡ true)
+    → planSound (branches arm i) (cond p x y) ≡ true
+either-plan arm i p x y f g = picked (λ (plan : Plan). planSound (branches arm i) plan ≡ true) p x y f g
 
 -- LSL of two registers is refused where the rewritten source is none
-source-there : (p q r : Bool) → (not p || q && r) ≡ false → (p && q) ≡ true → r ≡ false
-source-there true true r h e = h
+source-there : (p q r : Bool) → (not p || q && not r) ≡ false → (p && q) ≡ true → r ≡ true
+source-there true true r h e = not-false r h
 source-there true false r h e = absurd (true≢false (sym e))
 source-there false q r h e = absurd (true≢false h)
 
-lsl-sound : (i : Instruction) → WellFormed i → lslRefused (i .a) (i .b) ≡ false → (isRegister (i .a) && isRegister (i .b)) ≡ true
-    → SoundItems (lsl (i .a) (i .b))
-lsl-sound i w h e =
-    let r = source-there (isRegister (i .a)) (isRegister (i .b)) (noRegister (lslSource (i .a) (i .b))) h e in
-    two-sound (sound-plain (i .a) (w .a)) (sound-named (source-named r))
+plan-sound : (arm : Arm) (i : Instruction) → shapeRefused arm i ≡ false → planSound (branches arm i) (planOf arm i) ≡ true
+unfolding planOf general spread
+plan-sound General i s = refl
+plan-sound Qword i s = refl
+plan-sound Mmword i s = refl
+plan-sound Jmpf i s = refl
+plan-sound Callf i s = refl
+plan-sound Lds i s = refl
+plan-sound Movs i s = refl
+plan-sound Cmps i s = refl
+plan-sound Branch i s = either-plan Branch i (isBranch (i .a)) (one place.Branch) (generally i) (λ e. rw (or-false (isBranch (i .a)), e)) (λ e. refl)
+plan-sound Xbegin i s = either-plan Xbegin i (isXbegin (i .a)) (one place.Branch) (generally i) (λ e. rw e) (λ e. refl)
+plan-sound Feni i s = refl
+plan-sound Fdisi i s = refl
+plan-sound Fsetpm i s = refl
+plan-sound Hreset i s = refl
+plan-sound Lsl i s =
+    either-plan Lsl i (isRegister (i .a) && isRegister (i .b)) (two (plain 0) (named (lslSource (i .a) (i .b)))) (generally i)
+    (λ e. rw (source-there (isRegister (i .a)) (isRegister (i .b)) (isRegisterByte (lslSource (i .a) (i .b))) (sym (at-lsl i) ∙ s) e))
+    (λ e. refl)
+plan-sound Prefetch i s = refl
+plan-sound Sgdt i s = refl
+plan-sound Lss i s = refl
+plan-sound Nop i s = either-plan Nop i (isAbsent (i .b)) (generally i) none (λ e. refl) (λ e. refl)
+plan-sound Monitor i s = refl
+plan-sound Mwait i s = refl
+plan-sound Invlpgb i s = refl
+plan-sound Rdpru i s = refl
+plan-sound Scas i s = refl
+plan-sound Lods i s = refl
+plan-sound Psmash i s = refl
+plan-sound Pvalidate i s = refl
+plan-sound Incssp i s = refl
+plan-sound Wrss i s = refl
+plan-sound Pblendvb i s = refl
+plan-sound Lea i s = refl
+plan-sound Pushf i s = refl
+plan-sound Aam i s = either-plan Aam i (eqb (i .imm) 10) none (generally i) (λ e. refl) (λ e. refl)
+plan-sound Fcom i s = refl
+plan-sound Fadd i s =
+    either-plan Fadd i (isMemory (i .b)) _ _ (λ e. refl)
+    (λ e. either-plan Fadd i (isRegisterR (i .a)) (two (st 0) (plain 1)) (two (plain 0) (st 1)) (λ f. refl) (λ f. refl))
+plan-sound Fbld i s = refl
+plan-sound Fbstp i s = refl
 
-fadd-sound : (size : ℕ) (a b : Operand) → Kept a → Kept b → SoundItems (fadd size a b)
-fadd-sound size a b k l =
-    either-sound (isMemory b) (λ e. one-sound (sound-labelled (sizeLabel size) b l e))
-    (λ e.
-    either-sound (isRegisterR a) (λ f. two-sound (sound-st a k) (sound-plain b l)) (λ f. two-sound (sound-plain a k) (sound-st b l)))
+-- ---- What an arm shows
 
-fbld-sound : (size : ℕ) (b : Operand) → Kept b → SoundItems (fbld size b)
-fbld-sound size b k =
-    one-sound
-    (picked SoundItem (isMemory b) (labelled (tbyteLabel size) b) (st b) (λ e. sound-labelled (tbyteLabel size) b k e) (λ e. sound-st b k))
+pub record SoundItems (branches : Bool) (x : Items) : Type 0 where
+  pub a : SoundItem branches (x .a)
+  pub b : SoundItem branches (x .b)
+  pub c : SoundItem branches (x .c)
+  pub d : SoundItem branches (x .d)
 
--- operands that have to be memory
-module _ (i : Instruction) where
-  sgdt-memory : shapeRefused Sgdt i ≡ false → isMemory (i .a) ≡ true
-  sgdt-memory s = not-false (isMemory (i .a)) (sym (first-memory i .0) ∙ s)
+items-of : {b : Bool} (mode : Mode) (i : Instruction) → WellFormed i → (plan : Plan) → planSound b plan ≡ true → SoundItems b (itemsAt mode i plan)
+unfolding itemsAt
+items-of mode i w plan e =
+    record {
+      a = sound-place mode i w (plan .a) (search (both-left, both-right, e));
+      b = sound-place mode i w (plan .b) (search (both-left, both-right, e));
+      c = sound-place mode i w (plan .c) (search (both-left, both-right, e));
+      d = sound-place mode i w (plan .d) (search (both-left, both-right, e));
+    }
 
-  scas-memory : shapeRefused Scas i ≡ false → isMemory (i .a) ≡ true
-  scas-memory s = not-false (isMemory (i .a)) (sym (first-memory i .1 .0) ∙ s)
-
-  source-of-lss : shapeRefused Lss i ≡ false → isMemory (i .b) ≡ true
-  source-of-lss s = not-false (isMemory (i .b)) (neither-right (isAbsent (i .a)) (not (isMemory (i .b))) (sym (at-lss i) ∙ s))
-
-  source-of-lods : shapeRefused Lods i ≡ false → isMemory (i .b) ≡ true
-  source-of-lods s = not-false (isMemory (i .b)) (sym (at-lods i) ∙ s)
-
--- ---- All arms
-
-pub items-sound : (straight : Bool) (arm : Arm) (i : Instruction) → WellFormed i → shapeRefused arm i ≡ false → SoundItems (itemsOf straight arm i)
-unfolding itemsOf
-items-sound straight General i w s = general-sound (hasVector i) false false i w
-items-sound straight Qword i w s = general-sound false false false i w
-items-sound straight Mmword i w s = general-sound true false false i w
-items-sound straight Jmpf i w s = general-sound (hasVector i) true false i w
-items-sound straight Callf i w s = general-sound (hasVector i) true false i w
-items-sound straight Lds i w s = general-sound (hasVector i) false true i w
-items-sound straight Movs i w s = without-ds-sound (generally i) (general-sound (hasVector i) false false i w)
-items-sound straight Cmps i w s = general-sound (hasVector i) false false i w
-items-sound straight Branch i w s = either-sound (isBranch (i .a)) (λ e. branch-sound straight i w) (λ e. general-sound (hasVector i) false false i w)
-items-sound straight Xbegin i w s = either-sound (isXbegin (i .a)) (λ e. branch-sound straight i w) (λ e. general-sound (hasVector i) false false i w)
-items-sound straight Feni i w s = none-sound
-items-sound straight Fdisi i w s = none-sound
-items-sound straight Fsetpm i w s = none-sound
-items-sound straight Hreset i w s = two-sound (sound-plain (i .a) (w .a)) (sound-named eax)
-items-sound straight Lsl i w s = either-sound (isRegister (i .a) && isRegister (i .b)) (λ e. lsl-sound i w (sym (at-lsl i) ∙ s) e) (λ e. general-sound (hasVector i) false false i w)
-items-sound straight Prefetch i w s = one-sound (sound-plain (i .a) (w .a))
-items-sound straight Sgdt i w s = one-sound (sound-unsegmented Fword (i .a) (w .a) (sgdt-memory i s))
-items-sound straight Lss i w s = two-sound (sound-plain (i .a) (w .a)) (sound-unsegmented (lssLabel (i .size)) (i .b) (w .b) (source-of-lss i s))
-items-sound straight Nop i w s = either-sound (isAbsent (i .b)) (λ e. general-sound (hasVector i) false false i w) (λ e. none-sound)
-items-sound straight Monitor i w s = three-sound (sound-named eax) (sound-named ecx) (sound-named edx)
-items-sound straight Mwait i w s = two-sound (sound-named eax) (sound-named ecx)
-items-sound straight Invlpgb i w s = two-sound (sound-plain (i .a) (w .a)) (sound-plain (i .c) (w .c))
-items-sound straight Rdpru i w s = none-sound
-items-sound straight Scas i w s = one-sound (sound-labelled (sizeLabel (i .size)) (i .a) (w .a) (scas-memory i s))
-items-sound straight Lods i w s = one-sound (sound-unsegmented (sizeLabel (i .size)) (i .b) (w .b) (source-of-lods i s))
-items-sound straight Psmash i w s = one-sound (sound-named eax)
-items-sound straight Pvalidate i w s = three-sound (sound-named eax) (sound-named ecx) (sound-named edx)
-items-sound straight Incssp i w s = general-sound (hasVector i) false false i w
-items-sound straight Wrss i w s = general-sound (hasVector i) false false i w
-items-sound straight Pblendvb i w s = three-sound (sound-plain (i .a) (w .a)) (sound-labelled-memory (sizeLabel (i .size)) (i .b) (w .b)) (sound-named xmm0)
-items-sound straight Lea i w s = two-sound (sound-plain (i .a) (w .a)) (sound-plain (i .b) (w .b))
-items-sound straight Pushf i w s = none-sound
-items-sound straight Aam i w s = either-sound (eqb (i .imm) 10) (λ e. none-sound) (λ e. general-sound (hasVector i) false false i w)
-items-sound straight Fcom i w s = one-sound (sound-labelled-memory (sizeLabel (i .size)) (i .b) (w .b))
-items-sound straight Fadd i w s = fadd-sound (i .size) (i .a) (i .b) (w .a) (w .b)
-items-sound straight Fbld i w s = fbld-sound (i .size) (i .b) (w .b)
-items-sound straight Fbstp i w s = one-sound (sound-labelled-memory (tbyteLabel (i .size)) (i .a) (w .a))
+pub items-sound : (mode : Mode) (arm : Arm) (i : Instruction) → WellFormed i → shapeRefused arm i ≡ false → SoundItems (branches arm i) (itemsAt mode i (planOf arm i))
+items-sound mode arm i w s = items-of mode i w (planOf arm i) (plan-sound arm i s)

@@ -1,9 +1,10 @@
 -- Where MASM's reader takes printed branches to go, in both modes.
 -- Assumes nothing.
 use mathlib.Core.Path.{_≡_, refl, sym, ap, subst, _∙_}
-use mathlib.Core.Bool.{Bool, true, false, _&&_}
+use mathlib.Core.Bool.{Bool, true, _&&_}
 use mathlib.Core.List.{List, [], _∷_}
 use mathlib.Core.Logic.{inl, inr, _↔_}
+use mathlib.Core.Option.{Option}
 use Prim.Native.Nat.{ℕ, _+_, _%_, _^_, _<_}
 use native.Mathlib.Decide.{decLt}
 use native.Mathlib.Omega.{arith}
@@ -14,23 +15,27 @@ use Rattle.operands.specs.declared.Operand.{Operand}
 use Rattle.operands.specs.declared.Operand.the-variants.{Absent, Register, Imm, Absolute16, Absolute32, Memory}
 use Rattle.operands.specs.declared.Instruction.{Instruction}
 use Rattle.bodies.specs.WellFormed.{Kept, WellFormed}
-use Rattle.bodies.proofs.Accepted.{record-kept}
-use Rattle.branches.specs.Sums.{signed, branchSum, branchShown, from128to255}
-use Rattle.names.specs.Opcodes.{arms, armOf, opcodes}
-use Rattle.arms.specs.Parts.{immediateKind, immediateOf}
-use Rattle.arms.specs.Rewritten.{isBranch, isXbegin, branch as branch-items}
-use Rattle.arms.specs.Shows.{itemsOf}
+use Rattle.operands.specs.Kinds.{i8, i32}
+use Rattle.bodies.specs.Decoding.{instructionOf}
+use Rattle.branches.specs.declared.Mode.{Mode}
+use Rattle.branches.specs.declared.Mode.the-variants.{Crate, Straight}
+use Rattle.branches.specs.Sums.{signed, branchSum, branchShown, from128to255, modulo}
+use Rattle.names.specs.Opcodes.{opcodes, arms, armOf}
+use Rattle.operands.specs.Parts.{immediateKind, immediateOf}
+use Rattle.arms.specs.Tests.{isBranch, isXbegin}
+use Rattle.arms.specs.Plans.{one, planOf}
+use Rattle.places.specs.Places.{itemAt, itemsAt}
+use Rattle.places.specs.declared.Place.the-variants as place
 use Rattle.names.specs.declared.Arm.the-variants.{General, Branch, Xbegin}
-use Rattle.arrange.specs.declared.Line.{Line}
-use Rattle.arrange.proofs.Arranging.{accepted}
-use Rattle.lines.specs.Text.{lineText}
-use Rattle.masm.specs.Operands.{branch}
-use Rattle.readback.specs.Meaning.{modulo, meaning}
+use Rattle.records.specs.Records.{modeOf, lineAt, recordText}
+use Rattle.records.specs.declared.Asked.{Asked}
+use Rattle.masm.specs.Operands.{Width, branch}
+use Rattle.readback.specs.Meaning.{widthOf, meaning}
 use Rattle.readback.specs.Printed.{Printed}
-use Rattle.readback.specs.Targets.{BranchRecord, short, long, distanceOf, targetOf, BranchesTo, FitsByte, KeptInMode0}
+use Rattle.readback.specs.Targets.{BranchRecord, short, long, distanceOf, recordTarget, beforeDollar, BranchesTo, mode0Sum, FitsByte, KeptInMode0}
 use Rattle.readback.proofs.Modulo.{modulo-plus}
-use Rattle.readback.proofs.Sums.{by-sign, modulo-wide, kept-if-fits, fits-if-kept, Short, sum-within, behind-start, without-start, wide-sum}
-use Rattle.readback.proofs.Readback.{reads-back}
+use Rattle.readback.proofs.Sums.{by-sign, modulo-wide, kept-if-fits, fits-if-kept, Short, sum-within, after-start, without-start, wide-sum}
+use Rattle.readback.proofs.Readback.{well, reads-back}
 
 -- ---- What the line of a branch record shows
 
@@ -42,16 +47,16 @@ transaction : armOf 22 ≡ Xbegin
 unfolding armOf arms opcodes
 transaction = refl
 
-module _ (straight : Bool) (i : Instruction) where
-  at-relative : (armOf (i .opcode) ≡ Branch) → isBranch (i .a) ≡ true → itemsOf straight (armOf (i .opcode)) i ≡ branch-items straight (i .length) (i .a)
-  unfolding itemsOf
+module _ (i : Instruction) where
+  at-relative : armOf (i .opcode) ≡ Branch → isBranch (i .a) ≡ true → planOf (armOf (i .opcode)) i ≡ one place.Branch
+  unfolding planOf
   at-relative e k = rw (e, k)
 
-  at-transaction : (armOf (i .opcode) ≡ Xbegin) → isXbegin (i .a) ≡ true → itemsOf straight (armOf (i .opcode)) i ≡ branch-items straight (i .length) (i .a)
-  unfolding itemsOf
+  at-transaction : armOf (i .opcode) ≡ Xbegin → isXbegin (i .a) ≡ true → planOf (armOf (i .opcode)) i ≡ one place.Branch
+  unfolding planOf
   at-transaction e k = rw (e, k)
 
-  shows-branch : BranchRecord i → itemsOf straight (armOf (i .opcode)) i ≡ branch-items straight (i .length) (i .a)
+  shows-branch : BranchRecord i → planOf (armOf (i .opcode)) i ≡ one place.Branch
   shows-branch (short h k) = at-relative (relative (i .opcode) h) (rw k)
   shows-branch (long h k) =
       elim (decLt (i .opcode) 22) [
@@ -59,30 +64,65 @@ module _ (straight : Bool) (i : Instruction) where
         | no l ↦ let e : i .opcode ≡ 22 = omega arith in at-transaction (ap armOf e ∙ transaction) (rw k)
       ]
 
-  -- the sum that is shown
-  abbrev sumOf : ℤ
-  sumOf = branchSum straight (immediateKind (i .a)) (immediateOf (i .a)) (i .length)
+-- the sum that is shown
+abbrev sumOf : Mode → Instruction → ℤ
+sumOf mode i = branchSum mode (immediateKind (i .a)) (immediateOf (i .a)) (i .length)
 
-  abbrev nearOf : Bool
-  nearOf = eqb (immediateKind (i .a)) 5 && from128to255 sumOf
+abbrev nearOf : Mode → Instruction → Bool
+nearOf mode i = eqb (immediateKind (i .a)) i32 && from128to255 (sumOf mode i)
+
+-- ---- The sum that is shown
+
+module _ (i : Instruction) where
+  -- the bits of the sum
+  abbrev bits : ℕ
+  bits = immediateOf (i .a) + i .length
+
+  -- mode 1 keeps the sum of kind 3 whole
+  sum-straight : immediateKind (i .a) ≡ i8 → sumOf Straight i ≡ distanceOf i +ℤ pos (i .length)
+  unfolding branchSum
+  sum-straight k = rw k
+
+  -- mode 0 wraps it in 8 bits
+  sum-short : immediateKind (i .a) ≡ i8 → sumOf Crate i ≡ signed 8 bits
+  unfolding branchSum
+  sum-short k = rw k
+
+  -- kind 5 wraps in 32 bits in both modes
+  sum-long : (mode : Mode) → immediateKind (i .a) ≡ i32 → sumOf mode i ≡ signed 32 bits
+  unfolding branchSum
+  sum-long mode k = rw k
+
+  -- so what stands before `$` is the same in both modes
+  near-in-both : (mode : Mode) → BranchRecord i → widthOf (nearOf mode i) ≡ beforeDollar i
+  near-in-both mode (short h k) = rw k
+  near-in-both mode (long h k) = rw (sum-long mode k)
+
+  -- mode 0 wraps in the width of the distance
+  sum-in-mode-0 : BranchRecord i → sumOf Crate i ≡ mode0Sum i
+  unfolding branchSum
+  sum-in-mode-0 (short h k) = rw k
+  sum-in-mode-0 (long h k) = rw k
 
 -- a printed branch record is read as a branch, to the start and the sum that is shown
-module _ {body : List ℕ} {straight : Bool} {i : Instruction} {l : Line} (p : Printed body straight i l) (r : BranchRecord i) (start : ℕ) where
-  one-branch : (meaning start l) .operands ≡ branch (nearOf straight i) (modulo (pos start +ℤ sumOf straight i)) ∷ []
-  unfolding meaning branchShown
-  one-branch =
-      rw (
-        accepted straight (armOf (i .opcode)) i l (p .arranges) .is-line,
-        shows-branch straight i r,
-        by-sign (sumOf straight i),
-      )
+module _ {asked : Asked} {body : List ℕ} (p : Printed asked body) (r : BranchRecord (instructionOf body)) (start : ℕ) where
+  abbrev i : Instruction
+  i = instructionOf body
+
+  -- where it goes
+  abbrev shownTarget : ℕ
+  shownTarget = modulo (pos start +ℤ sumOf (modeOf asked) i)
+
+  pub one-branch : (meaning start (lineAt asked body)) .operands ≡ branch (beforeDollar i) shownTarget ∷ []
+  unfolding meaning lineAt itemsAt itemAt branchShown
+  one-branch = rw (shows-branch i r, by-sign (sumOf (modeOf asked) i), near-in-both i (modeOf asked) r)
 
   -- so it goes to an address exactly where the two are the same
-  goes : (target : ℕ) → modulo (pos start +ℤ sumOf straight i) ≡ target → BranchesTo start (lineText l) target
-  goes target e = record { line = meaning start l; reads = reads-back p start; near = nearOf straight i; operand = rw (← e) one-branch }
+  goes : {target : ℕ} → shownTarget ≡ target → BranchesTo start (recordText asked body) (beforeDollar i) target
+  goes e = record { line = meaning start (lineAt asked body); reads = reads-back p start; operand = rw (← e) one-branch }
 
-  goes-only : (target : ℕ) → BranchesTo start (lineText l) target → modulo (pos start +ℤ sumOf straight i) ≡ target
-  goes-only target b =
+  goes-only : {width : Option Width} {target : ℕ} → BranchesTo start (recordText asked body) width target → shownTarget ≡ target
+  goes-only b =
       let x = reads-back p start in
       let y = one-branch in
       let z = b .reads in
@@ -92,19 +132,19 @@ module _ {body : List ℕ} {straight : Bool} {i : Instruction} {l : Line} (p : P
 -- ---- The sum against the target
 
 -- the target is the start and the whole sum of distance and length
-target-sum : (start : ℕ) (i : Instruction) → targetOf start i ≡ modulo (pos start +ℤ (distanceOf i +ℤ pos (i .length)))
+target-sum : (start : ℕ) (i : Instruction) → recordTarget start i ≡ modulo (pos start +ℤ (distanceOf i +ℤ pos (i .length)))
 target-sum start i =
     ap modulo
     (+ℤ-assoc (pos start) (pos (i .length)) (distanceOf i) ∙ ap (λ (z : ℤ). pos start +ℤ z) (+ℤ-comm (pos (i .length)) (distanceOf i)))
 
 -- in numbers alone: the distance is held as 32 bits, so its bits are added
-pub target-by-bits : (start : ℕ) (i : Instruction) → targetOf start i ≡ (start + i .length + immediateOf (i .a)) % 2 ^ 32
+pub target-by-bits : (start : ℕ) (i : Instruction) → recordTarget start i ≡ (start + i .length + immediateOf (i .a)) % 2 ^ 32
 target-by-bits start i =
     let e = modulo-wide (immediateOf (i .a)) in
     modulo-plus (start + i .length) (distanceOf i) ∙ omega arith
 
 -- an accepted distance of kind 3 is one of 8 bits
-short-kept : (o : Operand) → Kept o → immediateKind o ≡ 3 → (immediateOf o < 2 ^ 32) × Short (immediateOf o)
+short-kept : (o : Operand) → Kept o → immediateKind o ≡ i8 → (immediateOf o < 2 ^ 32) × Short (immediateOf o)
 short-kept Absent k e = absurd (omega arith)
 short-kept (Register place reg) k e = absurd (omega arith)
 short-kept (Imm kind value) k e = (k .fits, k .i8 e)
@@ -113,75 +153,72 @@ short-kept (Absolute32 segment address) k e = absurd (omega arith)
 short-kept (Memory segment address) k e = absurd (omega arith)
 
 module _ (i : Instruction) where
-  -- the bits of the sum
-  abbrev bits : ℕ
-  bits = immediateOf (i .a) + i .length
-
-  -- mode 1 keeps the sum of kind 3 whole
-  sum-straight : immediateKind (i .a) ≡ 3 → sumOf true i ≡ distanceOf i +ℤ pos (i .length)
-  unfolding branchSum
-  sum-straight k = rw k
-
-  -- mode 0 wraps it in 8 bits
-  sum-short : immediateKind (i .a) ≡ 3 → sumOf false i ≡ signed 8 bits
-  unfolding branchSum
-  sum-short k = rw k
-
-  -- kind 5 wraps in 32 bits in both modes
-  sum-long : (straight : Bool) → immediateKind (i .a) ≡ 5 → sumOf straight i ≡ signed 32 bits
-  unfolding branchSum
-  sum-long straight k = rw k
-
-  long-target : (straight : Bool) (start : ℕ) → immediateKind (i .a) ≡ 5 → modulo (pos start +ℤ sumOf straight i) ≡ targetOf start i
-  long-target straight start k =
-      rw (sum-long straight k)
-      (behind-start start (signed 32 bits) (distanceOf i +ℤ pos (i .length)) (wide-sum (immediateOf (i .a)) (i .length))
+  long-target : (mode : Mode) (start : ℕ) → immediateKind (i .a) ≡ i32 → modulo (pos start +ℤ sumOf mode i) ≡ recordTarget start i
+  long-target mode start k =
+      rw (sum-long i mode k)
+      (after-start start (signed 32 (bits i)) (distanceOf i +ℤ pos (i .length)) (wide-sum (immediateOf (i .a)) (i .length))
       ∙ sym (target-sum start i))
 
-  straight-target : (start : ℕ) → BranchRecord i → modulo (pos start +ℤ sumOf true i) ≡ targetOf start i
-  straight-target start (short h k) = rw (sum-straight k) (sym (target-sum start i))
-  straight-target start (long h k) = long-target true start k
+  straight-target : (start : ℕ) → BranchRecord i → modulo (pos start +ℤ sumOf Straight i) ≡ recordTarget start i
+  straight-target start (short h k) = rw (sum-straight i k) (sym (target-sum start i))
+  straight-target start (long h k) = long-target Straight start k
 
-  -- in mode 0 a sum of kind 3 is kept exactly where it fits 8 bits
-  module _ (w : WellFormed i) (k : immediateKind (i .a) ≡ 3) (start : ℕ) where
-    whole-sum : distanceOf i +ℤ pos (i .length) ≡ signed 32 bits
+  -- in mode 0 a sum of kind 3 is kept exactly where it fits 8 (bits i)
+  module _ (w : WellFormed i) (k : immediateKind (i .a) ≡ i8) (start : ℕ) where
+    whole-sum : distanceOf i +ℤ pos (i .length) ≡ signed 32 (bits i)
     whole-sum =
         let (v, s) = short-kept (i .a) (w .a) k in
         sum-within (immediateOf (i .a)) (i .length) v (w .length-most) s
 
-    whole-target : targetOf start i ≡ modulo (pos start +ℤ signed 32 bits)
+    whole-target : recordTarget start i ≡ modulo (pos start +ℤ signed 32 (bits i))
     whole-target = target-sum start i ∙ ap (λ (z : ℤ). modulo (pos start +ℤ z)) whole-sum
 
-    short-fits : FitsByte (distanceOf i +ℤ pos (i .length)) → modulo (pos start +ℤ sumOf false i) ≡ targetOf start i
+    short-fits : FitsByte (distanceOf i +ℤ pos (i .length)) → modulo (pos start +ℤ sumOf Crate i) ≡ recordTarget start i
     short-fits f =
-        rw (sum-short k)
-        (behind-start start (signed 8 bits) (signed 32 bits) (kept-if-fits bits (subst FitsByte whole-sum f)) ∙ sym whole-target)
+        rw (sum-short i k)
+        (after-start start (signed 8 (bits i)) (signed 32 (bits i)) (kept-if-fits (bits i) (subst FitsByte whole-sum f)) ∙ sym whole-target)
 
-    fits-short : modulo (pos start +ℤ sumOf false i) ≡ targetOf start i → FitsByte (distanceOf i +ℤ pos (i .length))
+    fits-short : modulo (pos start +ℤ sumOf Crate i) ≡ recordTarget start i → FitsByte (distanceOf i +ℤ pos (i .length))
     fits-short e =
         subst FitsByte (sym whole-sum)
-        (fits-if-kept bits (without-start start (signed 8 bits) (signed 32 bits) (rw (sum-short k) at (e ∙ whole-target))))
+        (fits-if-kept (bits i) (without-start start (signed 8 (bits i)) (signed 32 (bits i)) (rw (sum-short i k) at (e ∙ whole-target))))
 
 -- ---- The theorems
 
--- Mode 1: every printed branch record is read as a branch to start plus length plus distance, modulo 2^32.
-pub straight-branch : {body : List ℕ} {i : Instruction} {l : Line} → Printed body true i l → BranchRecord i → (start : ℕ)
-    → BranchesTo start (lineText l) (targetOf start i)
-straight-branch {i = i} p r start = goes p r start (targetOf start i) (straight-target i start r)
+straight-asked : {asked : Asked} → asked .mode ≡ 1 → modeOf asked ≡ Straight
+straight-asked e = rw e
 
--- Mode 0: it is so exactly where the distance is 32 bits wide, or its sum with the length is from -128 to 127.
-pub mode-0-branch : {body : List ℕ} {i : Instruction} {l : Line} → Printed body false i l → BranchRecord i → (start : ℕ)
-    → BranchesTo start (lineText l) (targetOf start i) ↔ KeptInMode0 i
-mode-0-branch {body} {i} {l} p r start = (only-kept r, kept r)
-  where
-    w : WellFormed i
-    w = record-kept body i (p .bytes) (p .recorded)
+crate-asked : {asked : Asked} → asked .mode ≡ 0 → modeOf asked ≡ Crate
+crate-asked e = rw e
 
-    kept : BranchRecord i → KeptInMode0 i → BranchesTo start (lineText l) (targetOf start i)
+module _ {asked : Asked} {body : List ℕ} (p : Printed asked body) where
+  -- Mode 1: every printed branch record is read as a branch to start plus length plus distance, modulo 2^32.
+  pub straight-branch : asked .mode ≡ 1 → BranchRecord (instructionOf body) → (start : ℕ)
+      → BranchesTo start (recordText asked body) (beforeDollar (instructionOf body)) (recordTarget start (instructionOf body))
+  straight-branch m r start = goes p r start (rw (straight-asked m) (straight-target (instructionOf body) start r))
+
+  module _ (m : asked .mode ≡ 0) (r : BranchRecord (instructionOf body)) (start : ℕ) where
+    -- Mode 0: it is read as a branch to the start plus the sum as it wraps, modulo 2^32.
+    pub mode-0-shown : BranchesTo start (recordText asked body) (beforeDollar (instructionOf body)) (modulo (pos start +ℤ mode0Sum (instructionOf body)))
+    mode-0-shown = goes p r start (rw (crate-asked m) (ap (λ (z : ℤ). modulo (pos start +ℤ z)) (sum-in-mode-0 (instructionOf body) r)))
+
+    -- That is the target exactly where the distance is 32 bits wide, or its sum with the length is from -128 to 127.
+    kept : BranchRecord (instructionOf body) → KeptInMode0 (instructionOf body)
+        → BranchesTo start (recordText asked body) (beforeDollar (instructionOf body)) (recordTarget start (instructionOf body))
     kept (short h k) (inl e) = absurd (omega arith)
-    kept (short h k) (inr f) = goes p (short h k) start (targetOf start i) (short-fits i w k start f)
-    kept (long h k) c = goes p (long h k) start (targetOf start i) (long-target i false start k)
+    kept (short h k) (inr f) = goes p r start (rw (crate-asked m) (short-fits (instructionOf body) (well p) k start f))
+    kept (long h k) c = goes p r start (rw (crate-asked m) (long-target (instructionOf body) Crate start k))
 
-    only-kept : BranchRecord i → BranchesTo start (lineText l) (targetOf start i) → KeptInMode0 i
-    only-kept (short h k) b = inr (fits-short i w k start (goes-only p (short h k) start (targetOf start i) b))
+    only-kept : {width : Option Width} → BranchRecord (instructionOf body)
+        → BranchesTo start (recordText asked body) width (recordTarget start (instructionOf body)) → KeptInMode0 (instructionOf body)
+    only-kept (short h k) b = inr (fits-short (instructionOf body) (well p) k start (rw (crate-asked m) at (goes-only p r start b)))
     only-kept (long h k) b = inl k
+
+    -- whatever stands before `$`
+    pub mode-0-only : {width : Option Width} → BranchesTo start (recordText asked body) width (recordTarget start (instructionOf body))
+        → KeptInMode0 (instructionOf body)
+    mode-0-only b = only-kept r b
+
+    pub mode-0-branch : BranchesTo start (recordText asked body) (beforeDollar (instructionOf body)) (recordTarget start (instructionOf body))
+        ↔ KeptInMode0 (instructionOf body)
+    mode-0-branch = (mode-0-only, kept r)

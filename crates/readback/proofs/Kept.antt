@@ -1,42 +1,52 @@
--- Each operand that keeps the record rules is shown as a sound item, by itself and in the forms that the arms have for it.
+-- Each operand that keeps the record rules is shown as a sound item at every place; so are the registers that a place names, and branches.
 -- Assumes nothing.
 use mathlib.Core.Path.{_≡_, refl, sym, _∙_}
-use mathlib.Core.Bool.{Bool, true, false, cond, true≢false}
-use Prim.Native.Nat.{ℕ, suc, _+_, _^_, _≤_, _<_}
+use mathlib.Core.Bool.{Bool, true, false, _&&_, true≢false}
+use Prim.Native.Nat.{ℕ, zero, suc, _+_, _^_, _≤_, _<_}
 use native.Mathlib.Decide.{decLt}
 use native.Mathlib.Omega.{arith}
-use borrow.Author.Tests.{lt-ltb, le-ltb, eqb-false, leb-false}
+use borrow.Author.Tests.{lt-ltb, le-ltb, ltb-true, eqb-false, not-true}
 use lib.Dec.{eqb, lit<}
 use lib.IntN.{ℤ, pos, negsuc, natAbs, _+ℤ_}
-use Rattle.operands.specs.Kinds.{isMemory}
+use Rattle.operands.specs.Kinds.{i8, isMemory}
+use Rattle.operands.specs.Parts.{operandIn, shownOf, segmentOf, immediateKind, immediateOf, isSt0, bare}
+use Rattle.operands.specs.RegisterBytes.{isRegisterByte, st0}
 use Rattle.operands.specs.declared.Operand.{Operand}
 use Rattle.operands.specs.declared.Operand.the-variants.{Absent, Register, Imm, Absolute16, Absolute32, Memory}
+use Rattle.operands.specs.declared.Instruction.{Instruction}
 use Rattle.operands.specs.declared.Label.{Label}
 use Rattle.operands.specs.declared.Shown.{Shown}
 use Rattle.operands.specs.declared.Shown.the-variants as shown
-use Rattle.operands.specs.declared.Item.{Item}
-use Rattle.bodies.specs.WellFormed.{Kept}
-use Rattle.bodies.proofs.Picks.{neither-left, neither-right, picked}
-use Rattle.branches.specs.Sums.{signed, branchSum, branchShown}
+use Rattle.bodies.specs.WellFormed.{Kept, WellFormed}
+use Rattle.bodies.proofs.Picks.{both-left, both-right, picked}
+use Rattle.branches.specs.declared.Mode.{Mode}
+use Rattle.branches.specs.declared.Mode.the-variants.{Crate, Straight}
+use Rattle.branches.specs.Sums.{signed, shortSum, branchSum, branchShown}
 use Rattle.branches.proofs.Wrapping.{Within, signed-within}
-use Rattle.arms.specs.Parts.{shownOf, segmentOf, item, bare, plain, labelled, labelledMemory, named, nothing}
-use Rattle.arms.specs.General.{withoutDs}
-use Rattle.arms.specs.Rewritten.{isSt0, st}
-use Rattle.arrange.specs.Shape.{noRegister}
-use Rattle.readback.specs.Sound.{Named, SoundShown, isAddress, SoundItem}
+use Rattle.places.specs.Labels.{labelAt}
+use Rattle.places.specs.Places.{segmentShown, valueShown, operandShown, itemAt}
+use Rattle.places.specs.declared.Segment.{Segment}
+use Rattle.places.specs.declared.Segment.the-variants.{Hidden, Shown as Own, UnlessDs}
+use Rattle.places.specs.declared.Place.{Place}
+use Rattle.places.specs.declared.Place.the-variants as place
+use Rattle.readback.proofs.Sound.{Named, SoundShown, isAddress, isBranchShown, SoundItem}
 
 -- ---- What has neither label nor segment
 
-sound-bare : (x : Shown) → SoundShown x → SoundItem (bare x)
-sound-bare x s = record { shown = s; segment = omega arith; bare = λ e. (refl, refl) }
+sound-bare : {k : Bool} (x : Shown) → SoundShown x → isBranchShown x ≡ false → SoundItem k (bare x)
+sound-bare x s n = record { shown = s; segment = omega arith; bare = λ e. (refl, refl); branch = λ e. absurd (true≢false (sym e ∙ n)) }
 
-pub sound-nothing : SoundItem nothing
-sound-nothing = sound-bare shown.Nothing tt
+-- a register byte has a name
+register-named : (reg : ℕ) → isRegisterByte reg ≡ true → Named reg
+register-named reg e =
+    record {
+      below = ltb-true reg 64 (search (both-left, both-right, e));
+      not-30 = eqb-false reg 30 (not-true (eqb reg 30) (search (both-left, both-right, e)));
+      not-31 = eqb-false reg 31 (not-true (eqb reg 31) (search (both-left, both-right, e)));
+    }
 
-pub sound-named : {r : ℕ} → Named r → SoundItem (named r)
-sound-named {r} n = sound-bare (shown.Name r) n
+-- ---- Operands
 
--- the operand itself
 sound-operand : (o : Operand) → Kept o → SoundShown (shownOf o)
 sound-operand Absent k = tt
 sound-operand (Register place reg) k = record { below = k .below; not-30 = k .not-30; not-31 = k .not-31 }
@@ -45,22 +55,30 @@ sound-operand (Absolute16 segment address) k = k .1
 sound-operand (Absolute32 segment address) k = k .1
 sound-operand (Memory segment address) k = k .1
 
-pub sound-plain : (o : Operand) → Kept o → SoundItem (plain o)
-sound-plain o k = sound-bare (shownOf o) (sound-operand o k)
+no-branch : (o : Operand) → isBranchShown (shownOf o) ≡ false
+no-branch Absent = refl
+no-branch (Register place reg) = refl
+no-branch (Imm kind value) = refl
+no-branch (Absolute16 segment address) = refl
+no-branch (Absolute32 segment address) = refl
+no-branch (Memory segment address) = refl
 
--- `st` for st(0)
-pub sound-st : (o : Operand) → Kept o → SoundItem (st o)
-sound-st o k = sound-bare (cond (isSt0 o) shown.St (shownOf o)) (picked SoundShown (isSt0 o) shown.St (shownOf o) (λ e. tt) (λ e. sound-operand o k))
+-- memory alone is shown as an address; what is shortened is none
+address-shown : (short : Bool) (o : Operand) → isAddress (valueShown short o) ≡ isMemory o
+address-shown true Absent = refl
+address-shown true (Register place reg) = picked (λ (x : Shown). isAddress x ≡ false) (eqb reg st0) shown.St (shown.Name reg) (λ e. refl) (λ e. refl)
+address-shown true (Imm kind value) = refl
+address-shown true (Absolute16 segment address) = refl
+address-shown true (Absolute32 segment address) = refl
+address-shown true (Memory segment address) = refl
+address-shown false Absent = refl
+address-shown false (Register place reg) = refl
+address-shown false (Imm kind value) = refl
+address-shown false (Absolute16 segment address) = refl
+address-shown false (Absolute32 segment address) = refl
+address-shown false (Memory segment address) = refl
 
--- ---- Memory with a label
-
-address-shown : (o : Operand) → isAddress (shownOf o) ≡ isMemory o
-address-shown Absent = refl
-address-shown (Register place reg) = refl
-address-shown (Imm kind value) = refl
-address-shown (Absolute16 segment address) = refl
-address-shown (Absolute32 segment address) = refl
-address-shown (Memory segment address) = refl
+-- ---- Segments
 
 segment-few : (o : Operand) → Kept o → segmentOf o ≤ 6
 segment-few Absent k = omega arith
@@ -70,38 +88,37 @@ segment-few (Absolute16 segment address) k = k .0
 segment-few (Absolute32 segment address) k = k .0
 segment-few (Memory segment address) k = k .0
 
-module _ (l : Label) (o : Operand) (k : Kept o) where
-  sound-memory : isMemory o ≡ true → (s : ℕ) → s ≤ 6 → SoundItem (item l s (shownOf o))
-  sound-memory m s few =
-      record { shown = sound-operand o k; segment = few; bare = λ e. absurd (true≢false (sym m ∙ sym (address-shown o) ∙ e)) }
+segment-none : (o : Operand) → isMemory o ≡ false → segmentOf o ≡ 0
+segment-none Absent e = refl
+segment-none (Register place reg) e = refl
+segment-none (Imm kind value) e = refl
+segment-none (Absolute16 segment address) e = absurd (true≢false e)
+segment-none (Absolute32 segment address) e = absurd (true≢false e)
+segment-none (Memory segment address) e = absurd (true≢false e)
 
-  -- with a label and no segment, and with its own segment
-  pub sound-unsegmented : isMemory o ≡ true → SoundItem (item l 0 (shownOf o))
-  sound-unsegmented m = sound-memory m 0 (omega arith)
+shown-few : (segment : Segment) (o : Operand) → Kept o → segmentShown segment o ≤ 6
+shown-few Hidden o k = omega arith
+shown-few Own o k = segment-few o k
+shown-few UnlessDs o k = picked (λ n. n ≤ 6) (eqb (segmentOf o) 4) 0 (segmentOf o) (λ e. omega arith) (λ e. segment-few o k)
 
-  pub sound-labelled : isMemory o ≡ true → SoundItem (labelled l o)
-  sound-labelled m = sound-memory m (segmentOf o) (segment-few o k)
+shown-none : (segment : Segment) (o : Operand) → isMemory o ≡ false → segmentShown segment o ≡ 0
+shown-none Hidden o e = refl
+shown-none Own o e = segment-none o e
+shown-none UnlessDs o e = rw (segment-none o e)
 
-  pub sound-labelled-memory : SoundItem (labelledMemory l o)
-  sound-labelled-memory = picked SoundItem (isMemory o) (labelled l o) (plain o) (λ e. sound-labelled e) (λ e. sound-plain o k)
-
--- MOVS drops ds
-pub sound-without-ds : (x : Item) → SoundItem x → SoundItem (withoutDs x)
-sound-without-ds x s =
+-- an operand at any place
+sound-shown : {b : Bool} (label : Label) (segment : Segment) (short : Bool) (o : Operand) → Kept o → SoundItem b (operandShown label segment short o)
+unfolding operandShown
+sound-shown label segment short o k =
     record {
-      shown = s .shown;
-      segment = picked (λ n. n ≤ 6) (eqb (x .segment) 4) 0 (x .segment) (λ e. omega arith) (λ e. s .segment);
-      bare = λ e. (s .bare e .0, picked (λ n. n ≡ 0) (eqb (x .segment) 4) 0 (x .segment) (λ e. refl) (λ k. s .bare e .1));
-    }
-
--- ---- LSL's rewritten source
-
-pub source-named : {r : ℕ} → noRegister r ≡ false → Named r
-source-named {r} e =
-    record {
-      below = leb-false 64 r (search (neither-left, neither-right, e));
-      not-30 = eqb-false r 30 (search (neither-left, neither-right, e));
-      not-31 = eqb-false r 31 (search (neither-left, neither-right, e));
+      shown = picked SoundShown (short && isSt0 o) shown.St (shownOf o) (λ e. tt) (λ e. sound-operand o k);
+      segment = shown-few segment o k;
+      bare = λ e. let m : isMemory o ≡ false = sym (address-shown short o) ∙ e in (rw m, shown-none segment o m);
+      branch =
+          λ e.
+          absurd
+          (true≢false
+          (sym e ∙ picked (λ (x : Shown). isBranchShown x ≡ false) (short && isSt0 o) shown.St (shownOf o) (λ f. refl) (λ f. no-branch o)));
     }
 
 -- ---- Branches
@@ -119,17 +136,45 @@ fits-sum (negsuc n) length h l =
       | no k ↦ rw (le-ltb length (suc n) (omega arith)) (omega arith)
     ]
 
-pub size-fits : (straight : Bool) (kind value length : ℕ) → length ≤ 15 → natAbs (branchSum straight kind value length) < 2 ^ 32
-unfolding branchSum
-size-fits straight kind value length l =
-    let wide : (n : ℕ) → natAbs (signed 32 n) ≤ 2 ^ 31 = λ n. fits-signed (2 ^ 31) (signed 32 n) (signed-within 32 refl (lit< tt) n) in
-    let P : ℤ → Type 0 = λ z. natAbs z < 2 ^ 32 in
-    picked P (eqb kind 3) _ _
-    (λ e.
-    picked P straight _ _ (λ f. fits-sum (signed 32 value) length (wide value) l)
-    (λ f. omega (arith, fits-signed (2 ^ 7) (signed 8 (value + length)) (signed-within 8 refl (lit< tt) (value + length)))))
-    (λ e. omega (arith, wide (value + length)))
+module _ (value length : ℕ) (l : length ≤ 15) where
+  wide : (n : ℕ) → natAbs (signed 32 n) ≤ 2 ^ 31
+  wide n = fits-signed (2 ^ 31) (signed 32 n) (signed-within 32 refl (lit< tt) n)
 
-pub sound-branch : (straight : Bool) (kind value length : ℕ) → length ≤ 15 → SoundItem (bare (branchShown straight kind value length))
-unfolding branchShown
-sound-branch straight kind value length l = sound-bare (branchShown straight kind value length) (size-fits straight kind value length l)
+  short-fits : (mode : Mode) → natAbs (shortSum mode value length) < 2 ^ 32
+  short-fits Crate = omega (arith, fits-signed (2 ^ 7) (signed 8 (value + length)) (signed-within 8 refl (lit< tt) (value + length)))
+  short-fits Straight = fits-sum (signed 32 value) length (wide value) l
+
+  size-fits : (mode : Mode) (kind : ℕ) → natAbs (branchSum mode kind value length) < 2 ^ 32
+  unfolding branchSum
+  size-fits mode kind =
+      picked (λ z. natAbs z < 2 ^ 32) (eqb kind i8) _ _ (λ e. short-fits mode) (λ e. omega (arith, wide (value + length)))
+
+-- ---- Places
+
+-- a register that a place names is one, and a place shows a branch only where `branches` says so
+abbrev pub placeSound : (branches : Bool) → Place → Bool
+placeSound branches place.Nothing = true
+placeSound branches (place.Register reg) = isRegisterByte reg
+placeSound branches place.Branch = branches
+placeSound branches (place.Operand k label segment short) = true
+
+module _ (mode : Mode) (i : Instruction) (w : WellFormed i) where
+  operand-kept : (k : ℕ) → Kept (operandIn i k)
+  operand-kept zero = w .a
+  operand-kept (suc zero) = w .b
+  operand-kept (suc (suc zero)) = w .c
+  operand-kept (suc (suc (suc zero))) = w .d
+  operand-kept (suc (suc (suc (suc k)))) = tt
+
+  pub sound-place : {b : Bool} (p : Place) → placeSound b p ≡ true → SoundItem b (itemAt mode i p)
+  unfolding itemAt branchShown
+  sound-place place.Nothing e = sound-bare shown.Nothing tt refl
+  sound-place (place.Register reg) e = sound-bare (shown.Name reg) (register-named reg e) refl
+  sound-place place.Branch e =
+      record {
+        shown = size-fits (immediateOf (i .a)) (i .length) (w .length-most) mode (immediateKind (i .a));
+        segment = omega arith;
+        bare = λ f. (refl, refl);
+        branch = λ f. e;
+      }
+  sound-place (place.Operand k label segment short) e = sound-shown (labelAt label) segment short (operandIn i k) (operand-kept k)

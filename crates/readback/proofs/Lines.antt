@@ -3,7 +3,6 @@
 use mathlib.Core.Path.{_≡_, refl}
 use mathlib.Core.Bool.{Bool, true, false, not, _||_, false≢true}
 use mathlib.Core.List.{List, [], _∷_, _++_, append-assoc, append-nil}
-use mathlib.Core.Option.{some}
 use Prim.Native.Nat.{ℕ}
 use Rattle.text.specs.Choice.{when}
 use Rattle.text.specs.Words.{bytes}
@@ -11,34 +10,32 @@ use Rattle.operands.specs.declared.Shown.{Shown}
 use Rattle.operands.specs.declared.Shown.the-variants.{Nothing, Name, St, Number, Word, Dword, Bracket, Branch}
 use Rattle.operands.specs.declared.Item.{Item}
 use Rattle.operands.specs.declared.Items.{Items}
-use Rattle.items.specs.Items.{itemText}
-use Rattle.lines.specs.Text.{prefixesText, nameText, headText, shows, partedText, itemsText, lineText}
-use Rattle.arrange.specs.Size.{isMissing, lacksLabel}
-use Rattle.arrange.specs.Order.{isNothing, fromTheLeft}
-use Rattle.arrange.specs.declared.Head.{Head}
-use Rattle.arrange.specs.declared.Line.{Line}
+use Rattle.lines.specs.Items.{itemText}
+use Rattle.lines.specs.Text.{repsText, prefixesText, nameText, headText, shows as isShown, partedText, itemsText, lineText}
+use Rattle.lines.specs.declared.Head.{Head}
+use Rattle.lines.specs.declared.Line.{Line}
 use Rattle.bodies.proofs.Picks.{neither-left, neither-right, both-left, both-right}
 use Rattle.masm.specs.Operands.{Operand}
-use Rattle.masm.specs.Lines.{Prefix, Line as Read, read}
+use Rattle.masm.specs.Lines.{Prefix, Line as Read, shows, read}
 use Rattle.masm.proofs.Texts.{OperandText, OperandsText, one-operand, more-operands, MnemonicText, PrefixText, LineText, bare-line, full-line, prefixed-line, line-read}
 use Rattle.readback.specs.Meaning.{shownIf, itemOf, meaning}
-use Rattle.readback.specs.Sound.{SoundItem, Sound}
+use Rattle.readback.proofs.Sound.{SoundItem, Sound, isMissing, lacksLabel, isNothing, fromTheLeft}
 use Rattle.readback.proofs.Names.{xacquire, xrelease, lock, rep, repne, mnemonic-name}
 use Rattle.readback.proofs.Operands.{item-read}
 
 -- ---- Operands
 
--- the text is nothing, or operands behind a comma
-data Behind (start : ℕ) : List Operand → List ℕ → Type 0 where
-  no-more : Behind start [] []
-  some-more : {os : List Operand} {u : List ℕ} → OperandsText start os u → Behind start os (bytes ", " ++ u)
+-- the text is nothing, or operands after a comma
+data After (start : ℕ) : List Operand → List ℕ → Type 0 where
+  no-more : After start [] []
+  some-more : {os : List Operand} {u : List ℕ} → OperandsText start os u → After start os (bytes ", " ++ u)
 
-joined : {start : ℕ} {o : Operand} {os : List Operand} {u v : List ℕ} → OperandText start o u → Behind start os v → OperandsText start (o ∷ os) (u ++ v)
+joined : {start : ℕ} {o : Operand} {os : List Operand} {u v : List ℕ} → OperandText start o u → After start os v → OperandsText start (o ∷ os) (u ++ v)
 joined t no-more = rw append-nil (one-operand t)
 joined t (some-more s) = more-operands t s
 
 -- what shows nothing adds neither an operand nor a text
-shows-something : (x : Shown) → shows x ≡ not (isNothing x)
+shows-something : (x : Shown) → isShown x ≡ not (isNothing x)
 shows-something Nothing = refl
 shows-something (Name reg) = refl
 shows-something St = refl
@@ -66,40 +63,40 @@ module _ (start : ℕ) (x : Item) where
   no-operand : isNothing (x .shown) ≡ true → itemOf start x ≡ []
   no-operand e = rw (is-nothing (x .shown) e)
 
-  some-text : shows (x .shown) ≡ true → (separator : List ℕ) → partedText separator x ≡ separator ++ itemText x
+  some-text : isShown (x .shown) ≡ true → (separator : List ℕ) → partedText separator x ≡ separator ++ itemText x
   unfolding partedText
   some-text e separator = rw e
 
-  -- one more operand behind a comma, if it is shown
-  module _ (i : SoundItem x) (known : isMissing (x .label) ≡ false) where
-    behind : {os : List Operand} {u : List ℕ} → Behind start os u → Behind start (itemOf start x ++ os) (partedText (bytes ", ") x ++ u)
-    behind {os} {u} s = go (isNothing (x .shown)) refl
+  -- one more operand after a comma, if it is shown
+  module _ {k : Bool} (i : SoundItem k x) (known : isMissing (x .label) ≡ false) where
+    one-more : {os : List Operand} {u : List ℕ} → After start os u → After start (itemOf start x ++ os) (partedText (bytes ", ") x ++ u)
+    one-more {os} {u} s = go (isNothing (x .shown)) refl
       where
-        go : (b : Bool) → isNothing (x .shown) ≡ b → Behind start (itemOf start x ++ os) (partedText (bytes ", ") x ++ u)
+        go : (b : Bool) → isNothing (x .shown) ≡ b → After start (itemOf start x ++ os) (partedText (bytes ", ") x ++ u)
         go true e = rw (no-operand e, no-text e (bytes ", ")) s
         go false e =
             let r = item-read start x i known e in
             rw (r .one, some-text (r .is-shown) (bytes ", "), append-assoc) (some-more (joined (r .text) s))
 
--- ---- Operands behind a mnemonic
+-- ---- Operands after a mnemonic
 
-implied : (p q : Bool) → (not p || q) ≡ true → p ≡ true → q ≡ true
+pub implied : (p q : Bool) → (not p || q) ≡ true → p ≡ true → q ≡ true
 implied true q h e = h
 implied false q h e = absurd (false≢true e)
 
-module _ (start : ℕ) (x : Items) (a : SoundItem (x .a)) (b : SoundItem (x .b)) (c : SoundItem (x .c)) (d : SoundItem (x .d))
+module _ {k : Bool} (start : ℕ) (x : Items) (a : SoundItem k (x .a)) (b : SoundItem k (x .b)) (c : SoundItem k (x .c)) (d : SoundItem k (x .d))
     (labels : lacksLabel x ≡ false) (ordered : fromTheLeft x ≡ true) where
   abbrev shown-operands : List Operand
   shown-operands = itemOf start (x .a) ++ (itemOf start (x .b) ++ (itemOf start (x .c) ++ itemOf start (x .d)))
 
-  -- the operands behind the first
-  behind-first :
-      Behind start (itemOf start (x .b) ++ (itemOf start (x .c) ++ itemOf start (x .d)))
+  -- the operands after the first
+  after-first :
+      After start (itemOf start (x .b) ++ (itemOf start (x .c) ++ itemOf start (x .d)))
       (partedText (bytes ", ") (x .b) ++ (partedText (bytes ", ") (x .c) ++ partedText (bytes ", ") (x .d)))
-  behind-first =
-      let last = behind start (x .d) d (search (neither-left, neither-right, labels)) no-more in
-      behind start (x .b) b (search (neither-left, neither-right, labels))
-      (behind start (x .c) c (search (neither-left, neither-right, labels))
+  after-first =
+      let last = one-more start (x .d) d (search (neither-left, neither-right, labels)) no-more in
+      one-more start (x .b) b (search (neither-left, neither-right, labels))
+      (one-more start (x .c) c (search (neither-left, neither-right, labels))
       (rw (append-nil (itemOf start (x .d)), append-nil (partedText (bytes ", ") (x .d))) at last))
 
   module _ {m u : List ℕ} (t : MnemonicText m u) where
@@ -129,7 +126,7 @@ module _ (start : ℕ) (x : Items) (a : SoundItem (x .a)) (b : SoundItem (x .b))
     unfolding itemsText
     something-shown e =
         let r = item-read start (x .a) a (search (neither-left, neither-right, labels)) e in
-        rw (r .one, some-text start (x .a) (r .is-shown) (bytes " ")) (full-line t (joined (r .text) behind-first))
+        rw (r .one, some-text start (x .a) (r .is-shown) (bytes " ")) (full-line t (joined (r .text) after-first))
 
     operands-line : Shown-line
     operands-line =
@@ -146,12 +143,12 @@ line-parts : (h : Head) (t : List ℕ)
     → headText h ++ t
     ≡ when (h .xacquire) (bytes "xacquire ") ++ (when (h .xrelease) (bytes "xrelease ") ++ (when (h .lock) (bytes "lock ") ++ (when (h .rep) (bytes "rep ")
     ++ (when (h .repne) (bytes "repne ") ++ ((nameText (h .name) ++ when (h .suffix) (bytes "d")) ++ t)))))
-unfolding headText prefixesText
+unfolding headText prefixesText repsText
 line-parts h t = simp append-assoc
 
 -- ---- The theorem
 
-pub sound-line : (start : ℕ) (l : Line) → Sound l → LineText start (meaning start l) (lineText l)
+pub sound-line : {k : Bool} (start : ℕ) (l : Line) → Sound k l → LineText start (meaning start l) (lineText l)
 unfolding meaning lineText
 sound-line start l s =
     rw (line-parts (l .head) (itemsText (l .items)))
@@ -164,5 +161,5 @@ sound-line start l s =
     (mnemonic-name (l .head .name) (l .head .suffix) (s .name))))))))
 
 -- Of every sound line, wherever its instruction starts, the reader yields exactly what the line shows.
-pub reads : (start : ℕ) (l : Line) → Sound l → read start (lineText l) ≡ some (meaning start l)
+pub reads : {k : Bool} (start : ℕ) (l : Line) → Sound k l → read start (lineText l) ≡ shows (meaning start l)
 reads start l s = line-read (sound-line start l s)

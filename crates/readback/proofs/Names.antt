@@ -7,82 +7,87 @@ use mathlib.Core.List.{List, [], _∷_, _++_, append-nil}
 use mathlib.Core.Option.{some}
 use Prim.Native.Nat.{ℕ, zero, suc, _+_, _≤_, _<_}
 use native.Mathlib.Omega.{arith}
-use borrow.Author.Tests.{ne-eqb, lt-ltb}
+use borrow.Author.Tests.{ne-eqb}
 use lib.Dec.{T, eqb}
 use Rattle.text.specs.Choice.{when}
 use Rattle.text.specs.Words.{bytes}
-use Rattle.names.specs.Opcodes.{mnemonics, mnemonic, opcodes}
+use Rattle.names.specs.Opcodes.{opcodeCount, opcodes, mnemonics, mnemonic}
+use Rattle.names.specs.Labels.{labels as label-names, labelWord}
 use Rattle.names.specs.Registers.{registers as register-names, registerName, segments as segment-names, segmentName}
 use Rattle.operands.specs.declared.Label.{Label}
 use Rattle.operands.specs.declared.Label.the-variants as label
-use Rattle.items.specs.Labels.{labelText, segmentText}
+use Rattle.lines.specs.Fronts.{labelText, segmentText}
 use Rattle.lines.specs.Text.{nameText}
-use Rattle.arrange.specs.Size.{isMissing}
-use Rattle.arrange.specs.declared.Name.{Name as Mnemonic}
-use Rattle.arrange.specs.declared.Name.the-variants.{Opcode, Feni, Fdisi, Fsetpm}
+use Rattle.lines.specs.declared.Name.{Name as Mnemonic}
+use Rattle.lines.specs.declared.Name.the-variants.{Opcode, Feni, Fdisi, Fsetpm}
 use Rattle.masm.specs.Tokens.{word, tokens, lookup}
-use Rattle.masm.specs.Operands as masm
-use Rattle.masm.specs.Operands.{registers, segments, labels, ptr, numeral}
+use Rattle.masm.specs.Expressions.{numeral, registers}
+use Rattle.masm.specs.Operands.{widths, labels, synonyms, segments}
 use Rattle.masm.specs.Lines.{Prefix, prefixWords, Xacquire, Xrelease, Lock, Rep, Repne}
-use Rattle.masm.proofs.Tokens.{both, apart, leads-apart, free}
+use Rattle.masm.proofs.Tokens.{both, apart, leads-apart}
 use Rattle.masm.proofs.Numerals.{below, below-at}
-use Rattle.masm.proofs.Leaves.{isRegister, register-text, isSegment, segment-text, no-segment, isMnemonic, mnemonic-text}
-use Rattle.masm.proofs.Texts.{at-forms, RegisterText, SegmentText, LabelText, some-label, no-label, MnemonicText, PrefixText}
+use Rattle.masm.proofs.Expressions.{RegisterText}
+use Rattle.masm.proofs.Leaves.{isAlone, register-text, isInside, inside-text, segment-text, no-segment, label-text, isMnemonic, mnemonic-text}
+use Rattle.masm.proofs.Texts.{RegisterOperandText, SegmentText, LabelText, no-label, MnemonicText, PrefixText}
 use Rattle.readback.specs.Meaning.{segmentOf, labelOf, nameOf}
-use Rattle.readback.specs.Sound.{Named, SoundName}
+use Rattle.readback.proofs.Sound.{Named, SoundName, isMissing}
 
--- ---- Registers and segments
-
-registers-read : T (below 64 (λ r. eqb r 30 || eqb r 31 || isRegister r (registerName r)))
-unfolding isRegister tokens numeral registers registerName register-names
-registers-read = tt
+-- ---- Registers
 
 unless : (p q t : Bool) → p ≡ false → q ≡ false → T (p || q || t) → T t
 unless p q t e k h = rw (e, k) at h
 
-pub register-name : {r : ℕ} → Named r → RegisterText r (registerName r)
+registers-read : (start : ℕ) → T (below 64 (λ r. eqb r 30 || eqb r 31 || isAlone start r (registerName r)))
+unfolding isAlone tokens widths labels synonyms registers registerName register-names
+registers-read start = tt
+
+pub register-name : {r : ℕ} → Named r → RegisterOperandText r (registerName r)
 register-name {r} n =
     register-text
-    (unless (eqb r 30) (eqb r 31) (isRegister r (registerName r)) (ne-eqb r 30 (n .not-30)) (ne-eqb r 31 (n .not-31))
-    (below-at 64 (λ r. eqb r 30 || eqb r 31 || isRegister r (registerName r)) registers-read r (n .below)))
+    (λ start.
+    unless (eqb r 30) (eqb r 31) (isAlone start r (registerName r)) (ne-eqb r 30 (n .not-30)) (ne-eqb r 31 (n .not-31))
+    (below-at 64 (λ r. eqb r 30 || eqb r 31 || isAlone start r (registerName r)) (registers-read start) r (n .below)))
 
-pub st-name : RegisterText 32 (bytes "st")
-unfolding isRegister tokens numeral registers
-st-name = register-text tt
+pub st-name : RegisterOperandText 32 (bytes "st")
+unfolding isAlone tokens widths labels synonyms registers
+st-name = register-text (λ start. tt)
 
-segments-read : T (below 7 (λ s. eqb s 0 || isSegment (23 + s) (segmentName s ++ bytes ":")))
-unfolding isSegment tokens segments segmentName segment-names
-segments-read = tt
+-- in a bracket
+inside-read : T (below 16 (λ r. isInside r (registerName r)))
+unfolding isInside tokens numeral registers registerName register-names
+inside-read = tt
+
+pub inside-name : {r : ℕ} → r < 16 → RegisterText r (registerName r)
+inside-name {r} h = inside-text (below-at 16 (λ r. isInside r (registerName r)) inside-read r h)
+
+-- ---- Segments
 
 pub segment-name : (s : ℕ) → s ≤ 6 → SegmentText (segmentOf s) (segmentText s)
-unfolding segmentText
+unfolding segmentText segmentName segment-names tokens widths labels synonyms segments registers
 segment-name zero h = no-segment
-segment-name (suc s) h =
-    rw (lt-ltb 0 (suc s) (omega arith))
-    (segment-text
-    (unless false (eqb (suc s) 0) (isSegment (23 + suc s) (segmentName (suc s) ++ bytes ":")) refl (ne-eqb (suc s) 0 (λ e. omega arith))
-    (below-at 7 (λ s. eqb s 0 || isSegment (23 + s) (segmentName s ++ bytes ":")) segments-read (suc s) (omega arith))))
+segment-name (suc zero) h = segment-text (bytes "es") tt refl (λ start ts. refl) (λ start l ts. refl)
+segment-name (suc (suc zero)) h = segment-text (bytes "cs") tt refl (λ start ts. refl) (λ start l ts. refl)
+segment-name (suc (suc (suc zero))) h = segment-text (bytes "ss") tt refl (λ start ts. refl) (λ start l ts. refl)
+segment-name (suc (suc (suc (suc zero)))) h = segment-text (bytes "ds") tt refl (λ start ts. refl) (λ start l ts. refl)
+segment-name (suc (suc (suc (suc (suc zero))))) h = segment-text (bytes "fs") tt refl (λ start ts. refl) (λ start l ts. refl)
+segment-name (suc (suc (suc (suc (suc (suc zero)))))) h = segment-text (bytes "gs") tt refl (λ start ts. refl) (λ start l ts. refl)
+segment-name (suc (suc (suc (suc (suc (suc (suc s))))))) h = absurd (omega arith)
 
 -- ---- Labels
 
--- a label's word and `ptr`
-label-word : (w t : List ℕ) (l : masm.Label) → T (apart t) → tokens t ≡ word w ∷ ptr ∷ [] → T (free at-forms (word w ∷ []))
-    → lookup labels (word w ∷ []) ≡ some l → LabelText l t
-label-word w t l a e f n = some-label w (rw e at (leads-apart t a)) f n
-
 pub label-name : (l : Label) → isMissing l ≡ false → LabelText (labelOf l) (labelText l)
-unfolding labelText labels tokens
+unfolding labelText labelWord label-names tokens widths labels synonyms
 label-name label.None h = no-label
-label-name label.Byte h = label-word (bytes "byte") (bytes "byte ptr ") masm.Byte tt refl tt refl
-label-name label.Word h = label-word (bytes "word") (bytes "word ptr ") masm.Word tt refl tt refl
-label-name label.Dword h = label-word (bytes "dword") (bytes "dword ptr ") masm.Dword tt refl tt refl
-label-name label.Qword h = label-word (bytes "qword") (bytes "qword ptr ") masm.Qword tt refl tt refl
-label-name label.Xmmword h = label-word (bytes "xmmword") (bytes "xmmword ptr ") masm.Xmmword tt refl tt refl
-label-name label.Ymmword h = label-word (bytes "ymmword") (bytes "ymmword ptr ") masm.Ymmword tt refl tt refl
-label-name label.Zmmword h = label-word (bytes "zmmword") (bytes "zmmword ptr ") masm.Zmmword tt refl tt refl
-label-name label.Mmword h = label-word (bytes "mmword") (bytes "mmword ptr ") masm.Mmword tt refl tt refl
-label-name label.Fword h = label-word (bytes "fword") (bytes "fword ptr ") masm.Fword tt refl tt refl
-label-name label.Tbyte h = label-word (bytes "tbyte") (bytes "tbyte ptr ") masm.Tbyte tt refl tt refl
+label-name label.Byte h = label-text (bytes "byte") tt refl (λ start ts. refl)
+label-name label.Word h = label-text (bytes "word") tt refl (λ start ts. refl)
+label-name label.Dword h = label-text (bytes "dword") tt refl (λ start ts. refl)
+label-name label.Qword h = label-text (bytes "qword") tt refl (λ start ts. refl)
+label-name label.Xmmword h = label-text (bytes "xmmword") tt refl (λ start ts. refl)
+label-name label.Ymmword h = label-text (bytes "ymmword") tt refl (λ start ts. refl)
+label-name label.Zmmword h = label-text (bytes "zmmword") tt refl (λ start ts. refl)
+label-name label.Mmword h = label-text (bytes "mmword") tt refl (λ start ts. refl)
+label-name label.Fword h = label-text (bytes "fword") tt refl (λ start ts. refl)
+label-name label.Tbyte h = label-text (bytes "tbyte") tt refl (λ start ts. refl)
 label-name label.Missing h = no-label
 
 -- ---- Prefix words
@@ -113,19 +118,19 @@ repne = prefix-word (bytes "repne") (bytes "repne ") Repne tt refl refl
 
 -- ---- Mnemonics
 
--- every opcode's name is a mnemonic, and so it is with a `d` behind it
-mnemonics-read : T (below 154 (λ k. isMnemonic (mnemonic k) && isMnemonic (mnemonic k ++ bytes "d")))
+-- every opcode's name is a mnemonic, and so it is with a `d` after it
+mnemonics-read : T (below opcodeCount (λ k. isMnemonic (mnemonic k) && isMnemonic (mnemonic k ++ bytes "d")))
 unfolding isMnemonic tokens prefixWords mnemonic mnemonics opcodes
 mnemonics-read = tt
 
-opcode-name : (k : ℕ) (d : Bool) → k < 154 → T (isMnemonic (mnemonic k ++ when d (bytes "d")))
+opcode-name : (k : ℕ) (d : Bool) → k < opcodeCount → T (isMnemonic (mnemonic k ++ when d (bytes "d")))
 opcode-name k true h =
     both (isMnemonic (mnemonic k)) (isMnemonic (mnemonic k ++ bytes "d"))
-    (below-at 154 (λ k. isMnemonic (mnemonic k) && isMnemonic (mnemonic k ++ bytes "d")) mnemonics-read k h) .1
+    (below-at opcodeCount (λ k. isMnemonic (mnemonic k) && isMnemonic (mnemonic k ++ bytes "d")) mnemonics-read k h) .1
 opcode-name k false h =
     rw append-nil
     (both (isMnemonic (mnemonic k)) (isMnemonic (mnemonic k ++ bytes "d"))
-    (below-at 154 (λ k. isMnemonic (mnemonic k) && isMnemonic (mnemonic k ++ bytes "d")) mnemonics-read k h) .0)
+    (below-at opcodeCount (λ k. isMnemonic (mnemonic k) && isMnemonic (mnemonic k ++ bytes "d")) mnemonics-read k h) .0)
 
 name-read : (n : Mnemonic) (d : Bool) → SoundName n → T (isMnemonic (nameOf n ++ when d (bytes "d")))
 unfolding isMnemonic tokens prefixWords

@@ -14,7 +14,7 @@ use Rattle.text.specs.Words.{bytes}
 use Rattle.numerals.specs.Digits.{digit, digits, placesFrom, places}
 use Rattle.numerals.specs.Numerals.{figure, numeral, absolute}
 use Rattle.masm.specs.Tokens.{isDigit, tokens}
-use Rattle.masm.specs.Operands.{numeral as read-numeral}
+use Rattle.masm.specs.Expressions.{numeral as read-numeral}
 use Rattle.masm.proofs.Numerals.{NumberText, below, below-at, spells, hexadecimal, hexadecimal-0, top-digit}
 use Rattle.masm.proofs.Leaves.{isNumber, number-text}
 
@@ -37,16 +37,16 @@ decimal : (d : ℕ) → d < 10 → T (isDigit (digit d))
 unfolding digit
 decimal d h = below-at 10 (λ d. isDigit (digit d)) tt d h
 
-module _ (j v : ℕ) (fits : v < 16 ^ suc j) where
+module _ (j v : ℕ) (fits : v < 16 ^ suc j) (small : v < 2 ^ 32) where
   top-below : v / 16 ^ j < 16
   top-below = div-lt-iff-lt-mul {k = 16 ^ j} {x = v} {y = 16} (one-le-pow j 16 (lit< tt)) .1 (rw (← (pow-succ' 16 j)) fits)
 
   -- k digits, with a 0 in front where the top one is a letter, and an `h`
   by-top : (letter : Bool) → leb 10 (v / 16 ^ j) ≡ letter → NumberText v (when letter (bytes "0") ++ (digits (suc j) v ++ bytes "h"))
-  by-top true e = rw (mod-eq-of-lt fits) at (hexadecimal-0 digit digits digits-spell no-digits one-more (suc j) v)
+  by-top true e = rw (mod-eq-of-lt fits) at (hexadecimal-0 digit digits digits-spell no-digits one-more (suc j) v (rw (mod-eq-of-lt fits) small))
   by-top false e =
       rw (mod-eq-of-lt fits) at
-      (hexadecimal digit digits digits-spell no-digits one-more (suc j) v
+      (hexadecimal digit digits digits-spell no-digits one-more (suc j) v (rw (mod-eq-of-lt fits) small)
       (rw (top-digit digit digits digits-spell no-digits one-more isDigit j v (bytes "h"), mod-eq-of-lt top-below)
       (decimal (v / 16 ^ j) (leb-false 10 (v / 16 ^ j) e))))
 
@@ -90,19 +90,19 @@ numeral-small v h = number-text (below-at 10 (λ d. isNumber d (numeral d)) tt v
 
 -- any other is hexadecimal
 module _ (v : ℕ) (high : 9 < v) where
-  from-places : (k : ℕ) → 1 ≤ k → v < 16 ^ k → NumberText v (figure k v ++ bytes "h")
-  from-places zero some fits = absurd (omega arith)
-  from-places (suc j) some fits = figure-text j v fits
+  from-places : (k : ℕ) → 1 ≤ k → v < 16 ^ k → v < 2 ^ 32 → NumberText v (figure k v ++ bytes "h")
+  from-places zero some fits small = absurd (omega arith)
+  from-places (suc j) some fits small = figure-text j v fits small
 
   numeral-large : v < 2 ^ 32 → NumberText v (numeral v)
   unfolding numeral places
-  numeral-large fits = rw (lt-ltb 9 v high) (from-places (places v) (places-from 1 7 v) (places-enough 1 7 v fits))
+  numeral-large fits = rw (lt-ltb 9 v high) (from-places (places v) (places-from 1 7 v) (places-enough 1 7 v fits) fits)
 
 pub numeral-text : (v : ℕ) → v < 2 ^ 32 → NumberText v (numeral v)
 numeral-text v fits = elim (decLt v 10) [ yes h ↦ numeral-small v h | no h ↦ numeral-large v (omega arith) fits ]
 
 -- ---- Absolutes
 
-pub absolute-text : (j v : ℕ) → v < 16 ^ suc j → NumberText v (absolute (suc j) v)
+pub absolute-text : (j v : ℕ) → v < 16 ^ suc j → v < 2 ^ 32 → NumberText v (absolute (suc j) v)
 unfolding absolute
-absolute-text j v fits = figure-text j v fits
+absolute-text j v fits small = figure-text j v fits small

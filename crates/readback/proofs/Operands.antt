@@ -1,9 +1,11 @@
 -- Each operand of a line is read as what it shows.
 -- Assumes nothing.
-use mathlib.Core.Path.{_≡_, refl, ap₂, fun-ext}
+use mathlib.Core.Path.{_≡_, refl, ap, ap₂, fun-ext, _∙_}
 use mathlib.Core.Bool.{Bool, true, false, cond, true≢false}
 use mathlib.Core.List.{List, [], _∷_, _++_}
 use Prim.Native.Nat.{ℕ, suc, _%_, _^_, _<_, _≤_}
+use native.Mathlib.Nat.{zero-add}
+use native.Mathlib.Omega.{arith}
 use lib.IntN.{ℤ, pos, _+ℤ_}
 use Rattle.text.specs.Words.{bytes}
 use Rattle.numerals.specs.Numerals.{numeral}
@@ -13,20 +15,22 @@ use Rattle.operands.specs.declared.Label.the-variants.{None}
 use Rattle.operands.specs.declared.Shown.{Shown}
 use Rattle.operands.specs.declared.Shown.the-variants.{Nothing, Name, St, Number, Word, Dword, Bracket, Branch}
 use Rattle.operands.specs.declared.Item.{Item}
-use Rattle.items.specs.Labels.{labelText, segmentText}
-use Rattle.items.specs.Brackets.{bracketText}
-use Rattle.items.specs.Items.{absoluteText, branchText, shownText, itemText}
+use Rattle.branches.specs.Sums.{modulo}
+use Rattle.names.specs.Labels.{labels, labelWord}
+use Rattle.lines.specs.Fronts.{labelText, segmentText}
+use Rattle.lines.specs.Brackets.{bracketText}
+use Rattle.lines.specs.Items.{absoluteText, branchText, shownText, itemText}
 use Rattle.bodies.specs.WellFormed.{AddressKept}
-use Rattle.arrange.specs.Size.{isMissing}
-use Rattle.arrange.specs.Order.{isNothing}
 use Rattle.lines.specs.Text.{shows}
-use Rattle.masm.specs.Operands.{Operand, Register, branch, address}
-use Rattle.masm.proofs.Texts.{number-term, term-sum, OperandText, number-operand, register-operand, branch-operand, address-operand}
-use Rattle.readback.specs.Meaning.{modulo, bySign, labelOf, segmentOf, timesOf, addedOf, itemOf}
-use Rattle.readback.specs.Sound.{SoundItem}
+use Rattle.masm.specs.Expressions.{Register, constant}
+use Rattle.masm.specs.Operands.{Operand, branch, address, timesIn, wrapped}
+use Rattle.masm.proofs.Expressions.{number-term, term-sum}
+use Rattle.masm.proofs.Texts.{OperandText, number-operand, register-operand, branch-operand, address-operand}
+use Rattle.readback.specs.Meaning.{bySign, widthOf, labelOf, segmentOf, timesOf, addedOf, itemOf}
+use Rattle.readback.proofs.Sound.{SoundItem, isMissing, isNothing}
 use Rattle.readback.proofs.Numbers.{numeral-text, absolute-text}
 use Rattle.readback.proofs.Names.{register-name, st-name, segment-name, label-name}
-use Rattle.readback.proofs.Modulo.{from-start}
+use Rattle.readback.proofs.Modulo.{wrapped-modulo}
 use Rattle.readback.proofs.Addresses.{Adds, bracket-parts, bracket-adds}
 
 -- ---- Addresses
@@ -36,18 +40,20 @@ module _ (start : ℕ) (l : Label) (s : ℕ) (known : isMissing l ≡ false) (fe
   address-text : {times : Register → ℕ} {d : ℤ} {u : List ℕ} → Adds times d u
       → OperandText start (address (labelOf l) (segmentOf s) times (modulo d)) (labelText l ++ (segmentText s ++ (91 ∷ u ++ (93 ∷ []))))
   address-text {times} {d} {u} a =
-      let e : address (labelOf l) (segmentOf s) (a .sum .times) (a .sum .disp % 2 ^ 32) ≡ address (labelOf l) (segmentOf s) times (modulo d)
-      = ap₂ (address (labelOf l) (segmentOf s)) (fun-ext (a .counted)) (a .added) in
-      rw e at (address-operand {start = start} (label-name l known) (segment-name s few) (a .text))
+      let zero = a .sum (constant (pos 0)) in
+      let e : address (labelOf l) (segmentOf s) (timesIn (zero .counts)) (wrapped (zero .number)) ≡ address (labelOf l) (segmentOf s) times (modulo d)
+      = ap₂ (address (labelOf l) (segmentOf s)) (fun-ext (a .counted)) (ap wrapped (a .added) ∙ wrapped-modulo d) in
+      rw e at (address-operand {start = start} (label-name l known) (segment-name s few) (a .text) (a .no-start))
 
   bracket-operand : (a : Address) → AddressKept a
       → OperandText start (address (labelOf l) (segmentOf s) (timesOf a) (modulo (addedOf a))) (labelText l ++ (segmentText s ++ bracketText a))
   bracket-operand a k = rw (bracket-parts a) (address-text (bracket-adds a k))
 
-  absolute-operand : (v : ℕ) (j : ℕ) → v < 16 ^ suc j
+  absolute-operand : (v : ℕ) (j : ℕ) → v < 16 ^ suc j → v < 2 ^ 32
       → OperandText start (address (labelOf l) (segmentOf s) (λ r. 0) (v % 2 ^ 32)) (labelText l ++ (segmentText s ++ absoluteText (suc j) v))
   unfolding absoluteText
-  absolute-operand v j h = address-operand (label-name l known) (segment-name s few) (term-sum (number-term (absolute-text j v h)))
+  absolute-operand v j h k =
+      rw (zero-add v) at (address-operand {start = start} (label-name l known) (segment-name s few) (term-sum (number-term (absolute-text j v h k))) refl)
 
 -- ---- Branches
 
@@ -60,9 +66,9 @@ branch-parts true false size = refl
 branch-parts true true size = refl
 
 branch-shown : (start : ℕ) (near minus : Bool) (size : ℕ) → size < 2 ^ 32
-    → OperandText start (branch near (modulo (pos start +ℤ bySign minus size))) (branchText near minus size)
+    → OperandText start (branch (widthOf near) (modulo (pos start +ℤ bySign minus size))) (branchText near minus size)
 branch-shown start near minus size h =
-    rw (branch-parts near minus size, ← (from-start start minus size)) (branch-operand near minus (numeral-text size h))
+    rw (branch-parts near minus size, ← (wrapped-modulo (pos start +ℤ bySign minus size))) (branch-operand near minus (numeral-text size h))
 
 -- ---- Items
 
@@ -75,7 +81,7 @@ pub record ReadAs (start : ℕ) (x : Item) : Type 0 where
 
 -- with no label and no segment, the text is that of what is shown
 bare-text : (l : Label) (s : ℕ) (t : List ℕ) → (l ≡ None) × (s ≡ 0) → labelText l ++ (segmentText s ++ t) ≡ t
-unfolding labelText segmentText
+unfolding labelText labelWord labels segmentText
 bare-text l s t e = rw (e .0, e .1)
 
 module _ (start : ℕ) (l : Label) (s : ℕ) (known : isMissing l ≡ false) where
@@ -87,20 +93,20 @@ module _ (start : ℕ) (l : Label) (s : ℕ) (known : isMissing l ≡ false) whe
   unfolding itemText
   bare-read x o e k h t = record { operand = o; is-shown = k; one = h; text = rw (bare-text l s (shownText x) e) t }
 
-  shown-read : (x : Shown) → SoundItem (with-shown x) → isNothing x ≡ false → ReadAs start (with-shown x)
+  shown-read : {k : Bool} (x : Shown) → SoundItem k (with-shown x) → isNothing x ≡ false → ReadAs start (with-shown x)
   unfolding itemText shownText
   shown-read Nothing i k = absurd (true≢false k)
   shown-read (Name reg) i k = bare-read (Name reg) _ (i .bare refl) refl refl (register-operand (register-name (i .shown)))
   shown-read St i k = bare-read St _ (i .bare refl) refl refl (register-operand st-name)
   shown-read (Number value) i k = bare-read (Number value) _ (i .bare refl) refl refl (number-operand (numeral-text value (i .shown)))
   shown-read (Word value) i k =
-      record { operand = _; is-shown = refl; one = refl; text = absolute-operand start l s known (i .segment) value 3 (i .shown) }
+      record { operand = _; is-shown = refl; one = refl; text = absolute-operand start l s known (i .segment) value 3 (i .shown) (omega (arith, i .shown)) }
   shown-read (Dword value) i k =
-      record { operand = _; is-shown = refl; one = refl; text = absolute-operand start l s known (i .segment) value 7 (i .shown) }
+      record { operand = _; is-shown = refl; one = refl; text = absolute-operand start l s known (i .segment) value 7 (i .shown) (i .shown) }
   shown-read (Bracket a) i k =
       record { operand = _; is-shown = refl; one = refl; text = bracket-operand start l s known (i .segment) a (i .shown) }
   shown-read (Branch near minus size) i k =
       bare-read (Branch near minus size) _ (i .bare refl) refl refl (branch-shown start near minus size (i .shown))
 
-pub item-read : (start : ℕ) (x : Item) → SoundItem x → isMissing (x .label) ≡ false → isNothing (x .shown) ≡ false → ReadAs start x
+pub item-read : {k : Bool} (start : ℕ) (x : Item) → SoundItem k x → isMissing (x .label) ≡ false → isNothing (x .shown) ≡ false → ReadAs start x
 item-read start x i known k = shown-read start (x .label) (x .segment) known (x .shown) i k

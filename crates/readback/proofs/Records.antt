@@ -1,53 +1,55 @@
--- The theorem for a body and a mode number, in the words of the record's outcome.
+-- The theorem in the words of the record's outcome.
 -- Assumes nothing.
-use mathlib.Core.Path.{_≡_, refl}
-use mathlib.Core.Bool.{Bool, true, false}
-use mathlib.Core.List.{List, [], _∷_}
-use mathlib.Core.Option.{some}
-use Prim.Native.Nat.{ℕ}
+use mathlib.Core.Path.{_≡_, refl, sym, _∙_}
+use mathlib.Core.List.{List, _++_}
+use mathlib.Core.Logic.{_⊎_, inl, inr}
+use Prim.Native.Nat.{ℕ, _<_}
 use native.Mathlib.Omega.{arith}
-use Rattle.bodies.specs.Refusals.{lengthRefused, fieldRefused}
-use Rattle.bodies.specs.Decoding.{instructionOf}
+use lib.ListN.{take}
+use Rattle.answers.specs.Refusals.{Refusal, answerOf}
+use Rattle.answers.specs.Outcomes.{Outcome, outcomeOf, Gives}
+use Rattle.answers.specs.Table.{Answered}
+use Rattle.answers.specs.declared.Answer.{Answer}
+use Rattle.answers.proofs.Firsts.{answer-before}
+use Rattle.answers.proofs.Unique.{none-or-some}
 use Rattle.bodies.specs.WellFormed.{Bytes}
-use Rattle.arrange.specs.Shape.{shapeRefused}
-use Rattle.arrange.specs.Size.{sizeRefused}
-use Rattle.records.specs.Answers.{lowest, roomRefused, outcomeOf}
-use Rattle.records.specs.Records.{modeRefused, straight, armAt, refusals, lineAt, recordText, recordOutcome}
-use Rattle.masm.specs.Lines.{read}
+use Rattle.records.specs.Records.{refusals, lineAt, recordText, recordOutcome}
+use Rattle.records.specs.declared.Asked.{Asked}
+use Rattle.records.proofs.Unique.{record-meets}
+use Rattle.masm.specs.Lines.{shows, read}
 use Rattle.readback.specs.Meaning.{meaning}
 use Rattle.readback.specs.Printed.{Printed}
-use Rattle.readback.proofs.Readback.{unrefused-printed, reads-back}
+use Rattle.readback.proofs.Readback.{reads-back}
 
--- where no refusal counts, none holds
-record Unrefused (l f s z : Bool) : Type 0 where
-  length : l ≡ false
-  field : f ≡ false
-  shape : s ≡ false
-  size : z ≡ false
+-- where no refusal applies, none of the first ones does
+none-first : (rs ss : List Refusal) → answerOf (rs ++ ss) ≡ 0 → answerOf rs ≡ 0
+none-first rs ss e = go (none-or-some (answerOf rs))
+  where
+    go : (answerOf rs ≡ 0) ⊎ (0 < answerOf rs) → answerOf rs ≡ 0
+    go (inl z) = z
+    go (inr some) = absurd (omega (arith, some, e, answer-before rs ss some refl))
 
-none-holds : (m l f s z r : Bool) → lowest 1 (m ∷ l ∷ f ∷ s ∷ z ∷ r ∷ []) ≡ 0 → Unrefused l f s z
-none-holds true l f s z r e = absurd (let k : _≡_ {A = ℕ} 1 0 = e in omega arith)
-none-holds false true f s z r e = absurd (let k : _≡_ {A = ℕ} 2 0 = e in omega arith)
-none-holds false false true s z r e = absurd (let k : _≡_ {A = ℕ} 3 0 = e in omega arith)
-none-holds false false false true z r e = absurd (let k : _≡_ {A = ℕ} 4 0 = e in omega arith)
-none-holds false false false false true r e = absurd (let k : _≡_ {A = ℕ} 5 0 = e in omega arith)
-none-holds false false false false false r e = record { length = refl; field = refl; shape = refl; size = refl }
+-- ---- The buffer after a call
 
-module _ (mode : ℕ) (body buf : List ℕ) (bytes : Bytes body) (e : recordOutcome mode body buf .answer ≡ 0) where
-  unrefused :
-      Unrefused (lengthRefused body) (fieldRefused body) (shapeRefused (armAt body) (instructionOf body))
-      (sizeRefused (armAt body) (instructionOf body))
-  unfolding recordOutcome outcomeOf refusals
-  unrefused = none-holds (modeRefused mode) _ _ _ _ (roomRefused (recordText mode body) buf) e
+-- after answer 0 the first bytes of the buffer, up to the length, are the text
+pub first-bytes : {rs : List Refusal} {text buf : List ℕ} {o : Outcome} {given : Answer} {after : List ℕ}
+    → Answered rs text buf (o .answer) (o .length) (o .buffer) → Gives o given after → given .number ≡ 0 → take (given .length) after ≡ text
+first-bytes met g z = rw (g .length, g .after) (met .front (sym (g .answer) ∙ z))
 
+-- ---- The record entry
+
+module _ (asked : Asked) (body buf : List ℕ) (bytes : Bytes body) (e : recordOutcome asked body buf .answer ≡ 0) where
   -- answer 0 is a printed line
-  pub answer-0-printed : Printed body (straight mode) (instructionOf body) (lineAt mode body)
-  unfolding lineAt
-  answer-0-printed =
-      let u = unrefused in
-      unrefused-printed (straight mode) bytes (u .length) (u .field) (u .shape) (u .size)
+  pub answer-0-printed : Printed asked body
+  unfolding recordOutcome outcomeOf
+  answer-0-printed = record { bytes = bytes; accepted = none-first (refusals asked body) _ e }
 
   -- and its text is read as what the line shows
-  pub record-reads-back : (start : ℕ) → read start (recordText mode body) ≡ some (meaning start (lineAt mode body))
-  unfolding recordText
+  pub record-reads-back : (start : ℕ) → read start (recordText asked body) ≡ shows (meaning start (lineAt asked body))
   record-reads-back start = reads-back answer-0-printed start
+
+-- Where the record entry answers 0 with a length, so many bytes of the buffer after the call are read as what the record shows.
+pub buffer-reads-back : (asked : Asked) (body buf : List ℕ) {after : List ℕ} {given : Answer} → Bytes body → Gives (recordOutcome asked body buf) given after
+    → given .number ≡ 0 → (start : ℕ) → read start (take (given .length) after) ≡ shows (meaning start (lineAt asked body))
+buffer-reads-back asked body buf bytes g z start =
+    rw (first-bytes (record-meets asked body buf) g z) (record-reads-back asked body buf bytes (sym (g .answer) ∙ z) start)

@@ -8,9 +8,9 @@ use native.Mathlib.Nat.{mod-lt}
 use native.Mathlib.Omega.{arith}
 use lib.Dec.{lit<}
 use lib.IntN.{ℤ, pos, negsuc, natAbs, _+ℤ_, +ℤ-comm}
-use Rattle.branches.specs.Sums.{signed, below0}
+use Rattle.branches.specs.Sums.{signed, below0, modulo}
 use Rattle.branches.proofs.Sums.{signed-low, signed-high, whole-low, whole-back, whole-over}
-use Rattle.readback.specs.Meaning.{modulo, bySign}
+use Rattle.readback.specs.Meaning.{bySign}
 use Rattle.readback.specs.Targets.{FitsByte}
 use Rattle.readback.proofs.Modulo.{modulo-plus}
 
@@ -87,14 +87,14 @@ sum-within value length v l (inr h) =
 
 -- ---- From the start
 
--- behind one and the same start, sums agree modulo 2^32 exactly where they agree by themselves
+-- after one and the same start, sums agree modulo 2^32 exactly where they agree by themselves
 module _ (start : ℕ) (y z : ℤ) where
   modulo-below : (x : ℤ) → modulo x < 2 ^ 32
   modulo-below (pos n) = mod-lt n {m = 2 ^ 32} (lit< tt)
   modulo-below (negsuc n) = mod-lt (2 ^ 32 - suc n % 2 ^ 32) {m = 2 ^ 32} (lit< tt)
 
-  pub behind-start : modulo y ≡ modulo z → modulo (pos start +ℤ y) ≡ modulo (pos start +ℤ z)
-  behind-start e = modulo-plus start y ∙ ap (λ m. (start + m) % 2 ^ 32) e ∙ sym (modulo-plus start z)
+  pub after-start : modulo y ≡ modulo z → modulo (pos start +ℤ y) ≡ modulo (pos start +ℤ z)
+  after-start e = modulo-plus start y ∙ ap (λ m. (start + m) % 2 ^ 32) e ∙ sym (modulo-plus start z)
 
   pub without-start : modulo (pos start +ℤ y) ≡ modulo (pos start +ℤ z) → modulo y ≡ modulo z
   without-start e =

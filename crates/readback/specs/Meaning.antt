@@ -3,9 +3,9 @@
 use mathlib.Core.Bool.{Bool, true, false, cond, _&&_}
 use mathlib.Core.List.{List, [], _∷_, _++_}
 use mathlib.Core.Option.{Option, none, some}
-use Prim.Native.Nat.{ℕ, suc, _+_, _-_, _%_, _^_}
+use Prim.Native.Nat.{ℕ, _+_, _%_, _^_}
 use lib.Dec.{ltb, eqb}
-use lib.IntN.{ℤ, pos, negsuc, negℤ, _+ℤ_}
+use lib.IntN.{ℤ, pos, negℤ, _+ℤ_}
 use Rattle.text.specs.Choice.{when}
 use Rattle.text.specs.Words.{bytes}
 use Rattle.names.specs.Opcodes.{mnemonic}
@@ -15,12 +15,15 @@ use Rattle.operands.specs.declared.Label.the-variants as label
 use Rattle.operands.specs.declared.Shown.{Shown}
 use Rattle.operands.specs.declared.Shown.the-variants.{Nothing, Name, St, Number, Word, Dword, Bracket, Branch}
 use Rattle.operands.specs.declared.Item.{Item}
-use Rattle.arrange.specs.declared.Head.{Head}
-use Rattle.arrange.specs.declared.Line.{Line}
-use Rattle.arrange.specs.declared.Name.{Name as Mnemonic}
-use Rattle.arrange.specs.declared.Name.the-variants.{Opcode, Feni, Fdisi, Fsetpm}
+use Rattle.operands.specs.RegisterBytes.{st0}
+use Rattle.branches.specs.Sums.{modulo}
+use Rattle.lines.specs.declared.Head.{Head}
+use Rattle.lines.specs.declared.Line.{Line}
+use Rattle.lines.specs.declared.Name.{Name as Mnemonic}
+use Rattle.lines.specs.declared.Name.the-variants.{Opcode, Feni, Fdisi, Fsetpm}
 use Rattle.masm.specs.Operands as masm
-use Rattle.masm.specs.Operands.{Operand, Register, register, immediate, branch, address}
+use Rattle.masm.specs.Expressions.{Register}
+use Rattle.masm.specs.Operands.{Operand, Width, Near, register, immediate, branch, address}
 use Rattle.masm.specs.Lines.{Line as Read, Prefix, Xacquire, Xrelease, Lock, Rep, Repne}
 
 -- ---- The head
@@ -42,16 +45,11 @@ nameOf Feni = bytes "feni"
 nameOf Fdisi = bytes "fdisi"
 nameOf Fsetpm = bytes "fsetpm"
 
--- and a `d` behind them where the line has it
+-- and a `d` after them where the line has it
 abbrev pub mnemonicOf : Head → List ℕ
 mnemonicOf h = nameOf (h .name) ++ when (h .suffix) (bytes "d")
 
 -- ---- Numbers
-
--- an integer modulo 2^32: below 0, what is missing to the next multiple of 2^32
-abbrev pub modulo : ℤ → ℕ
-modulo (pos n) = n % 2 ^ 32
-modulo (negsuc n) = (2 ^ 32 - suc n % 2 ^ 32) % 2 ^ 32
 
 -- an integer by its sign and its size
 abbrev pub bySign : (minus : Bool) → ℕ → ℤ
@@ -60,19 +58,23 @@ bySign minus size = cond minus (negℤ (pos size)) (pos size)
 -- ---- Operands
 
 -- a label as the reader names it; `Missing` stands in no line that is printed
-abbrev pub labelOf : Label → masm.Label
-labelOf label.None = masm.Unlabelled
-labelOf label.Byte = masm.Byte
-labelOf label.Word = masm.Word
-labelOf label.Dword = masm.Dword
-labelOf label.Qword = masm.Qword
-labelOf label.Xmmword = masm.Xmmword
-labelOf label.Ymmword = masm.Ymmword
-labelOf label.Zmmword = masm.Zmmword
-labelOf label.Mmword = masm.Mmword
-labelOf label.Fword = masm.Fword
-labelOf label.Tbyte = masm.Tbyte
-labelOf label.Missing = masm.Unlabelled
+abbrev pub labelOf : Label → Option masm.Label
+labelOf label.None = none
+labelOf label.Byte = some masm.Byte
+labelOf label.Word = some masm.Word
+labelOf label.Dword = some masm.Dword
+labelOf label.Qword = some masm.Qword
+labelOf label.Xmmword = some masm.Xmmword
+labelOf label.Ymmword = some masm.Ymmword
+labelOf label.Zmmword = some masm.Zmmword
+labelOf label.Mmword = some masm.Mmword
+labelOf label.Fword = some masm.Fword
+labelOf label.Tbyte = some masm.Tbyte
+labelOf label.Missing = none
+
+-- `near ptr`, or nothing
+abbrev pub widthOf : (near : Bool) → Option Width
+widthOf near = cond near (some Near) none
 
 -- segments 1 to 6 are es cs ss ds fs gs, the registers from 24 on
 abbrev pub segmentOf : ℕ → Option Register
@@ -86,17 +88,17 @@ timesOf a r = cond (a .based && eqb r (a .base)) 1 0 + cond (a .indexed && eqb r
 abbrev pub addedOf : Address → ℤ
 addedOf a = cond (a .displaced) (a .disp) (pos 0)
 
--- what an operand of a line shows, or nothing: a register by its byte (`st` is st(0), 32), an immediate, an address, or a branch to
--- the sum of the start and the signed number behind `$`. An absolute is an address that counts no register.
+-- what an operand of a line shows, or nothing: a register by its byte (`st` is st(0)), an immediate, an address, or a branch to
+-- the sum of the start and the signed number after `$`. An absolute is an address that counts no register.
 abbrev pub operandOf : (start : ℕ) (label : Label) (segment : ℕ) → Shown → List Operand
 operandOf start label segment Nothing = []
 operandOf start label segment (Name reg) = register reg ∷ []
-operandOf start label segment St = register 32 ∷ []
+operandOf start label segment St = register st0 ∷ []
 operandOf start label segment (Number value) = immediate (value % 2 ^ 32) ∷ []
 operandOf start label segment (Word value) = address (labelOf label) (segmentOf segment) (λ r. 0) (value % 2 ^ 32) ∷ []
 operandOf start label segment (Dword value) = address (labelOf label) (segmentOf segment) (λ r. 0) (value % 2 ^ 32) ∷ []
 operandOf start label segment (Bracket a) = address (labelOf label) (segmentOf segment) (timesOf a) (modulo (addedOf a)) ∷ []
-operandOf start label segment (Branch near minus size) = branch near (modulo (pos start +ℤ bySign minus size)) ∷ []
+operandOf start label segment (Branch near minus size) = branch (widthOf near) (modulo (pos start +ℤ bySign minus size)) ∷ []
 
 -- an operand of a line with its label and segment
 abbrev pub itemOf : (start : ℕ) → Item → List Operand

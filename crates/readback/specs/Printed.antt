@@ -1,19 +1,15 @@
--- Which lines are printed.
+-- Which bodies are printed.
 -- Assumes nothing.
-use mathlib.Core.Bool.{Bool}
 use mathlib.Core.List.{List}
 use mathlib.Core.Path.{_≡_}
 use Prim.Native.Nat.{ℕ}
-use Rattle.operands.specs.declared.Instruction.{Instruction}
-use Rattle.bodies.specs.declared.Decoded.the-variants.{Record}
-use Rattle.bodies.specs.Decoding.{decoded}
+use Rattle.answers.specs.Refusals.{answerOf}
 use Rattle.bodies.specs.WellFormed.{Bytes}
-use Rattle.arrange.specs.Line.{arranged}
-use Rattle.arrange.specs.declared.Line.{Line}
-use Rattle.arrange.specs.declared.Arranged.the-variants.{Shown}
+use Rattle.records.specs.Records.{refusals}
+use Rattle.records.specs.declared.Asked.{Asked}
 
--- a body of bytes is accepted: its record is i, whose line in the mode is l; `straight` is mode 1
-pub record Printed (body : List ℕ) (straight : Bool) (i : Instruction) (l : Line) : Type 0 where
+-- A body of bytes is accepted: no refusal applies that is asked before there is a buffer. Its record is `instructionOf body`, its line
+-- `lineAt asked body`, and the line's text `recordText asked body`.
+pub record Printed (asked : Asked) (body : List ℕ) : Type 0 where
   pub bytes : Bytes body
-  pub recorded : decoded body ≡ Record i
-  pub arranges : arranged straight i ≡ Shown l
+  pub accepted : answerOf (refusals asked body) ≡ 0

@@ -8,11 +8,12 @@ use Rattle.operands.specs.declared.Shown.{Shown}
 use Rattle.operands.specs.declared.Shown.the-variants.{Nothing, Name, St, Number, Word, Dword, Bracket, Branch}
 use Rattle.operands.specs.declared.Item.{Item}
 use Rattle.bodies.specs.WellFormed.{AddressKept}
-use Rattle.arrange.specs.Size.{lacksLabel}
-use Rattle.arrange.specs.Order.{fromTheLeft}
-use Rattle.arrange.specs.declared.Line.{Line}
-use Rattle.arrange.specs.declared.Name.{Name as Mnemonic}
-use Rattle.arrange.specs.declared.Name.the-variants.{Opcode, Feni, Fdisi, Fsetpm}
+use Rattle.names.specs.Opcodes.{opcodeCount}
+use Rattle.lines.specs.declared.Line.{Line}
+use Rattle.lines.specs.declared.Name.{Name as Mnemonic}
+use Rattle.lines.specs.declared.Name.the-variants.{Opcode, Feni, Fdisi, Fsetpm}
+pub use Rattle.arms.proofs.Labelled.{isMissing, lacksLabel}
+pub use Rattle.arms.proofs.Order.{counted, isNothing, fromTheLeft}
 
 -- a register byte that has a name
 pub record Named (reg : ℕ) : Type 0 where
@@ -42,25 +43,38 @@ isAddress (Dword address) = true
 isAddress (Bracket address) = true
 isAddress (Branch near minus size) = false
 
--- an operand of a line: what is shown, behind a known segment; what is no address has neither label nor segment
-pub record SoundItem (x : Item) : Type 0 where
+-- a branch
+abbrev pub isBranchShown : Shown → Bool
+isBranchShown Nothing = false
+isBranchShown (Name reg) = false
+isBranchShown St = false
+isBranchShown (Number value) = false
+isBranchShown (Word address) = false
+isBranchShown (Dword address) = false
+isBranchShown (Bracket address) = false
+isBranchShown (Branch near minus size) = true
+
+-- an operand of a line: what is shown, after a known segment; what is no address has neither label nor segment; a branch only where
+-- the record is one
+pub record SoundItem (branches : Bool) (x : Item) : Type 0 where
   pub shown : SoundShown (x .shown)
   pub segment : x .segment ≤ 6
   pub bare : isAddress (x .shown) ≡ false → (x .label ≡ None) × (x .segment ≡ 0)
+  pub branch : isBranchShown (x .shown) ≡ true → branches ≡ true
 
 -- the mnemonic is an opcode's name, or one of the three words
 abbrev pub SoundName : Mnemonic → Type 0
-SoundName (Opcode opcode) = opcode < 154
+SoundName (Opcode opcode) = opcode < opcodeCount
 SoundName Feni = Unit {0}
 SoundName Fdisi = Unit {0}
 SoundName Fsetpm = Unit {0}
 
 -- a line: no label is missing, and its operands stand from the left with none left out
-pub record Sound (l : Line) : Type 0 where
+pub record Sound (branches : Bool) (l : Line) : Type 0 where
   pub name : SoundName (l .head .name)
-  pub a : SoundItem (l .items .a)
-  pub b : SoundItem (l .items .b)
-  pub c : SoundItem (l .items .c)
-  pub d : SoundItem (l .items .d)
+  pub a : SoundItem branches (l .items .a)
+  pub b : SoundItem branches (l .items .b)
+  pub c : SoundItem branches (l .items .c)
+  pub d : SoundItem branches (l .items .d)
   pub labels : lacksLabel (l .items) ≡ false
   pub ordered : fromTheLeft (l .items) ≡ true

@@ -1,0 +1,128 @@
+-- A record's line shows a branch exactly if the record is a branch record.
+-- Assumes nothing.
+use mathlib.Core.Path.{_≡_, refl, sym, ap, _∙_}
+use mathlib.Core.Bool.{Bool, true, false, not, _&&_, _||_, true≢false}
+use mathlib.Core.List.{List, [], _∷_, _++_}
+use mathlib.Core.Logic.{inl, inr, _↔_}
+use Prim.Native.Nat.{ℕ, _<_}
+use native.Mathlib.Omega.{arith}
+use borrow.Author.Tests.{ltb-true, eqb-true}
+use lib.Dec.{T, ltb, eqb}
+use lib.Ieee.Bits.{is-true}
+use Rattle.operands.specs.declared.Instruction.{Instruction}
+use Rattle.operands.specs.declared.Label.{Label}
+use Rattle.operands.specs.declared.Shown.{Shown}
+use Rattle.operands.specs.declared.Shown.the-variants.{Nothing, Name, St, Number, Word, Dword, Bracket, Branch as BranchShown}
+use Rattle.operands.specs.declared.Item.{Item}
+use Rattle.operands.specs.Kinds.{i8, i32}
+use Rattle.bodies.specs.Decoding.{instructionOf}
+use Rattle.bodies.proofs.Picks.{neither-left, neither-right, either, both-left, both-right}
+use Rattle.names.specs.Opcodes.{opcodeCount, opcodes, arms, armOf}
+use Rattle.operands.specs.Parts.{immediateKind}
+use Rattle.arms.specs.Tests.{isBranch, isXbegin}
+use Rattle.names.specs.declared.Arm.the-variants.{Branch, Xbegin}
+use Rattle.names.specs.Among.{isArm}
+use Rattle.lines.specs.declared.Line.{Line}
+use Rattle.records.specs.Records.{armAt, lineAt, recordText}
+use Rattle.records.specs.declared.Asked.{Asked}
+use Rattle.masm.specs.Operands.{Operand}
+use Rattle.masm.specs.Lines.{Line as Read}
+use Rattle.masm.proofs.Numerals.{below, below-at}
+use Rattle.readback.specs.Meaning.{operandOf, itemOf, meaning}
+use Rattle.readback.specs.Printed.{Printed}
+use Rattle.readback.specs.Targets.{BranchRecord, short, long, isTarget, anyTarget, ShowsBranch}
+use Rattle.readback.proofs.Sound.{isBranchShown, SoundItem, Sound}
+use Rattle.readback.proofs.Lines.{implied}
+use Rattle.readback.proofs.Arms.{branches}
+use Rattle.readback.proofs.Readback.{well, sound, reads-back}
+use Rattle.readback.proofs.Branching.{one-branch}
+
+-- ---- A line of which no operand is a branch
+
+any-append : (xs ys : List Operand) → anyTarget xs ≡ false → anyTarget ys ≡ false → anyTarget (xs ++ ys) ≡ false
+any-append [] ys e f = f
+any-append (x ∷ xs) ys e f =
+    rw (neither-left (isTarget x) (anyTarget xs) e) (any-append xs ys (neither-right (isTarget x) (anyTarget xs) e) f)
+
+shown-target : (start : ℕ) (l : Label) (s : ℕ) (x : Shown) → isBranchShown x ≡ false → anyTarget (operandOf start l s x) ≡ false
+shown-target start l s Nothing e = refl
+shown-target start l s (Name reg) e = refl
+shown-target start l s St e = refl
+shown-target start l s (Number value) e = refl
+shown-target start l s (Word address) e = refl
+shown-target start l s (Dword address) e = refl
+shown-target start l s (Bracket address) e = refl
+shown-target start l s (BranchShown near minus size) e = absurd (true≢false e)
+
+is-no-branch : (b : Bool) → (b ≡ true → false ≡ true) → b ≡ false
+is-no-branch true f = sym (f refl)
+is-no-branch false f = refl
+
+item-target : (start : ℕ) (x : Item) → SoundItem false x → anyTarget (itemOf start x) ≡ false
+item-target start x i = shown-target start (x .label) (x .segment) (x .shown) (is-no-branch (isBranchShown (x .shown)) (i .branch))
+
+no-target : (start : ℕ) (l : Line) → Sound false l → anyTarget (meaning start l .operands) ≡ false
+unfolding meaning
+no-target start l s =
+    any-append (itemOf start (l .items .a)) _ (item-target start (l .items .a) (s .a))
+    (any-append (itemOf start (l .items .b)) _ (item-target start (l .items .b) (s .b))
+    (any-append (itemOf start (l .items .c)) _ (item-target start (l .items .c) (s .c)) (item-target start (l .items .d) (s .d))))
+
+-- ---- Which opcodes have an arm that shows branches
+
+relative-below : T (below opcodeCount (λ k. not (isArm (armOf k) Branch) || ltb k 22))
+unfolding armOf arms opcodes
+relative-below = tt
+
+xbegin-alone : T (below opcodeCount (λ k. not (isArm (armOf k) Xbegin) || eqb k 22))
+unfolding armOf arms opcodes
+xbegin-alone = tt
+
+-- what the test says of an opcode
+relative-if : (k : ℕ) → k < opcodeCount → isArm (armOf k) Branch ≡ true → k < 22
+relative-if k h e =
+    let t = below-at opcodeCount (λ k. not (isArm (armOf k) Branch) || ltb k 22) relative-below k h in
+    ltb-true k 22 (implied (isArm (armOf k) Branch) (ltb k 22) (is-true (not (isArm (armOf k) Branch) || ltb k 22) t) e)
+
+xbegin-if : (k : ℕ) → k < opcodeCount → isArm (armOf k) Xbegin ≡ true → k ≡ 22
+xbegin-if k h e =
+    let t = below-at opcodeCount (λ k. not (isArm (armOf k) Xbegin) || eqb k 22) xbegin-alone k h in
+    eqb-true k 22 (implied (isArm (armOf k) Xbegin) (eqb k 22) (is-true (not (isArm (armOf k) Xbegin) || eqb k 22) t) e)
+
+branch-record : (i : Instruction) → i .opcode < opcodeCount → branches (armOf (i .opcode)) i ≡ true → BranchRecord i
+branch-record i h e =
+    let arm = armOf (i .opcode) in
+    elim (either (isArm arm Branch && isBranch (i .a)) (isArm arm Xbegin && isXbegin (i .a)) e) [
+      | inl f ↦
+          let k = relative-if (i .opcode) h (both-left (isArm arm Branch) (isBranch (i .a)) f) in
+          elim (either (eqb (immediateKind (i .a)) i8) (eqb (immediateKind (i .a)) i32) (both-right (isArm arm Branch) (isBranch (i .a)) f)) [
+            | inl g ↦ short k (eqb-true (immediateKind (i .a)) i8 g)
+            | inr g ↦ long (omega arith) (eqb-true (immediateKind (i .a)) i32 g)
+          ]
+      | inr f ↦
+          let k = xbegin-if (i .opcode) h (both-left (isArm arm Xbegin) (isXbegin (i .a)) f) in
+          long (omega arith) (eqb-true (immediateKind (i .a)) i32 (both-right (isArm arm Xbegin) (isXbegin (i .a)) f))
+    ]
+
+-- ---- The theorem
+
+-- In both modes and from every start, the line of an accepted record is read with a branch among its operands exactly if the record is
+-- a branch record.
+module _ {asked : Asked} {body : List ℕ} (p : Printed asked body) (start : ℕ) where
+  shows-it : BranchRecord (instructionOf body) → ShowsBranch start (recordText asked body)
+  shows-it r = record { line = meaning start (lineAt asked body); reads = reads-back p start; target = rw (one-branch p r start) }
+
+  the-line : (b : ShowsBranch start (recordText asked body)) → b .line ≡ meaning start (lineAt asked body)
+  the-line b =
+      let x = reads-back p start in
+      let y = b .reads in
+      cc
+
+  is-one : (k : Bool) → branches (armAt body) (instructionOf body) ≡ k → ShowsBranch start (recordText asked body) → BranchRecord (instructionOf body)
+  is-one true e b = branch-record (instructionOf body) (well p .opcode) e
+  is-one false e b =
+      let s : Sound false (lineAt asked body) = rw e at (sound p) in
+      absurd (true≢false (sym (b .target) ∙ ap (λ (r : Read). anyTarget (r .operands)) (the-line b) ∙ no-target start (lineAt asked body) s))
+
+  pub branch-exactly : BranchRecord (instructionOf body) ↔ ShowsBranch start (recordText asked body)
+  branch-exactly = (shows-it, is-one (branches (armAt body) (instructionOf body)) refl)
