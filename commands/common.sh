@@ -99,7 +99,7 @@ stop_session() {
     trap '' HUP INT TERM
     if [ -n "$session" ]; then
         kill -s TERM "$session" 2>/dev/null
-        wait "$session"
+        wait "$session" 2>/dev/null
     fi
     say "stopped; the next call goes on from here"
     trap - HUP INT TERM
@@ -119,7 +119,8 @@ build() {
     made=$root/target/$1
     shift
     [ -n "$rt" ] || trouble "$(basename "$made") has to be built, and rt, the Rattle kit's command, is not on the PATH"
-    mkdir -p "$root/target/log" 2>/dev/null || trouble "$(basename "$made") has to be built, and $root/target cannot be written"
+    mkdir -p "$root/target/log" 2>/dev/null
+    [ -w "$root/target/log" ] || trouble "$(basename "$made") has to be built, and $root/target cannot be written"
     say "building $(basename "$made"): proving the crates that it is made of, which takes minutes the first time"
     # rt leaves alone what it has proved, also where the file that it made is gone
     [ -f "$made" ] || rm -f "$root/target/stamp/$2"
