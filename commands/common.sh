@@ -129,22 +129,26 @@ build() {
     touch "$made"
 }
 
-# need FILE WORDS..: FILE, below target/, is there and is made of the sources as they are, and is open as
-# descriptor 8: whoever removes it then does no harm. Where it is not there it is built, by `rt WORDS`.
+# is_built FILE: it is there, below target/, and made of the sources as they are.
+is_built() { [ -f "$root/target/$1" ] && ! is_older "$root/target/$1"; }
+
+# open_built FILE: as descriptor 8. Whoever removes or replaces it then does no harm.
+open_built() { { command exec 8<"$root/target/$1"; } 2>/dev/null; }
+
+# need FILE WORDS..: FILE, below target/, is built, by `rt WORDS` where it was not, and is open.
 need() {
     lock shared
-    if [ ! -f "$root/target/$1" ] || is_older "$root/target/$1"; then
+    if ! is_built "$1"; then
         if [ -f "$root/target/$1" ] && [ ! -w "$root/target/$1" ]; then
             say "some sources are newer than target/$1, which cannot be written: it is taken as it is"
         else
             unlock
             lock alone
             # another command may have built it in the meantime
-            if [ ! -f "$root/target/$1" ] || is_older "$root/target/$1"; then build "$@"; fi
+            is_built "$1" || build "$@"
         fi
     fi
-    [ -r "$root/target/$1" ] || trouble "$root/target/$1 cannot be read"
-    exec 8<"$root/target/$1"
+    open_built "$1" || trouble "$root/target/$1 cannot be read"
     unlock
 }
 
@@ -153,7 +157,11 @@ need_program() {
     find_kit
     name=$1
     if is_checkout; then
-        need "bin/$name" check "$name"
+        # rt has a stamp of a program from when it is proved and run until it is built anew; while there is one,
+        # nobody need wait for what others build
+        if [ ! -f "$root/target/stamp/$name" ] || ! is_built "bin/$name" || ! open_built "bin/$name"; then
+            need "bin/$name" check "$name"
+        fi
         program=/proc/self/fd/8
         [ -r "$program" ] || program=$root/target/bin/$name
     else
