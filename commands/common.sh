@@ -71,7 +71,7 @@ lock() {
             ;;
         esac
     done
-    say "waiting: this checkout is being built by another command"
+    say "waiting for another command that is building in this checkout"
     flock "$how" 9 || trouble "the lock of $root cannot be taken"
 }
 
@@ -79,7 +79,9 @@ unlock() { exec 9<&-; }
 
 # ---- a session of its own for what takes long, so that a signal to the command ends all that it started
 
-# in_session WORDS..: their status. They read nothing.
+# in_session WORDS..: their status. They read nothing. `goes_on` is set where a later call goes on from where this
+# one was stopped.
+goes_on=
 in_session() {
     command -v setsid >/dev/null 2>&1 || trouble "building needs setsid, of util-linux, which is not on the PATH"
     session=
@@ -101,7 +103,7 @@ stop_session() {
         kill -s TERM "$session" 2>/dev/null
         wait "$session" 2>/dev/null
     fi
-    say "stopped; the next call goes on from here"
+    say "stopped${goes_on:+; the next call goes on from here}"
     trap - HUP INT TERM
     kill -s "$1" $$
     exit 2
@@ -122,8 +124,9 @@ build() {
     mkdir -p "$root/target/log" 2>/dev/null
     [ -w "$root/target/log" ] || trouble "$(basename "$made") has to be built, and $root/target cannot be written"
     say "building $(basename "$made"): proving the crates that it is made of, which takes minutes the first time"
-    # rt leaves alone what it has proved, also where the file that it made is gone
-    [ -f "$made" ] || rm -f "$root/target/stamp/$2"
+    # rt leaves alone what it has proved, also where the program that it made is gone
+    if [ "$1" = check ] && [ ! -f "$made" ]; then rm -f "$root/target/stamp/$2"; fi
+    goes_on=yes
     in_session sh "$root/commands/build" "$me" "$root" "$rt" "$@" || trouble "$(basename "$made") was not built; target/log/build.out says why"
     [ -f "$made" ] || trouble "$(basename "$made") was not built, though rt says that it was; target/log/build.out has what it says"
     touch "$made"
@@ -140,7 +143,7 @@ need() {
     lock shared
     if ! is_built "$1"; then
         if [ -f "$root/target/$1" ] && [ ! -w "$root/target/$1" ]; then
-            say "some sources are newer than target/$1, which cannot be written: it is taken as it is"
+            say "some sources are newer than target/$1, which cannot be rebuilt here: it is used as it is"
         else
             unlock
             lock alone
@@ -175,7 +178,7 @@ need_program() {
 
 # ---- a run and its verdict
 
-# verdict_of LINE: takes a program's last line apart; false where it is no such line.
+# verdict_of LINE: takes a program's last line apart; false where it is not such a line.
 verdict_of() {
     case $1 in 'list: '*' records, '*' refused; '*) ;; *) return 1 ;; esac
     records=${1#list: }
