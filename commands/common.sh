@@ -100,8 +100,7 @@ in_session() {
 stop_session() {
     trap '' HUP INT TERM
     if [ -n "$session" ]; then
-        kill -s TERM "$session" 2>/dev/null
-        wait "$session" 2>/dev/null
+        { kill -s TERM "$session"; wait "$session"; } 2>/dev/null
     fi
     say "stopped${goes_on:+; the next call goes on from here}"
     trap - HUP INT TERM
