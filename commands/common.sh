@@ -210,7 +210,7 @@ run_program() {
     said=$("$@" 2>&1 >&3 3>&-; ended=$?; printf x; exit "$ended")
     ended=$?
     exec 3>&-
-    last=
+    last='' records='' refused='' what=''
     left=$said
     while [ "$left" != x ] && [ -n "$left" ]; do
         line=${left%%"$line_end"*}
