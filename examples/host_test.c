@@ -133,7 +133,7 @@ static void call(entry *print, const char *about, const uint8_t *input, size_t i
 	size_t length = answer == MASM_PRINTED || answer == MASM_NO_ROOM ? needed : 0;
 	uint64_t returned;
 	size_t i;
-	int before = 1, past = 1, behind = 1;
+	int before = 1, past = 1, after = 1;
 
 	for (i = 0; i < CANARY + room + CANARY; i++)
 		fenced[i] = canary(i);
@@ -150,14 +150,14 @@ static void call(entry *print, const char *about, const uint8_t *input, size_t i
 	for (i = CANARY + written; i < CANARY + room; i++)
 		past &= fenced[i] == canary(i);
 	for (i = CANARY + room; i < CANARY + room + CANARY; i++)
-		behind &= fenced[i] == canary(i);
+		after &= fenced[i] == canary(i);
 	check(before, "%s, mode %lu, room %lu: bytes before the buffer changed", about, (unsigned long)mode, (unsigned long)room);
 	check(past, "%s, mode %lu, room %lu: bytes past the printed length changed", about, (unsigned long)mode, (unsigned long)room);
-	check(behind, "%s, mode %lu, room %lu: bytes behind the buffer changed", about, (unsigned long)mode, (unsigned long)room);
+	check(after, "%s, mode %lu, room %lu: bytes after the buffer changed", about, (unsigned long)mode, (unsigned long)room);
 	check(written == 0 || memcmp(fenced + CANARY, text, written) == 0, "%s, mode %lu, room %lu: `%.*s` instead of `%.*s`", about,
 	      (unsigned long)mode, (unsigned long)room, (int)written, (const char *)fenced + CANARY, (int)written, (const char *)text);
 	check(input_len == 0 || memcmp(own, input, input_len) == 0, "%s: the input changed", about);
-	check(one_byte[0] == 0x5A, "%s: the byte behind a pointer of length 0 changed", about);
+	check(one_byte[0] == 0x5A, "%s: the byte after a pointer of length 0 changed", about);
 
 	free(fenced);
 	if (input_len > 0)
@@ -466,7 +466,7 @@ static void the_longest_listing(void)
 		same &= memcmp(text + 12 * i, "; refused 2\n", 12) == 0;
 	same &= memcmp(text + 12 * frames, "; cut\n", 6) == 0;
 	check(same, "the longest listing prints something else");
-	check(text[needed] == 0x5A, "the longest listing: the byte behind the text changed");
+	check(text[needed] == 0x5A, "the longest listing: the byte after the text changed");
 
 	memset(text, 0x5A, 64);
 	returned = masm_print_listing(input, length + 1, MASM_MODE_STRAIGHT, text, needed);

@@ -1,10 +1,14 @@
 /*
  * The listing printer, called from C: MASM lines for record bodies and for whole listings.
  *
- * Link with target/staticlib/libhost.a (`rt staticlib host`; x86-64 Linux). The archive allocates
- * nothing, keeps nothing between calls and stops no program: every body and every listing, whatever
- * bytes it holds, gets one of the answers below. Calls from several threads at once are fine as long
- * as none of them writes what another one uses.
+ * Link with target/staticlib/libhost.a (`rt staticlib host`), or as `pkg-config --libs masm_listing` says
+ * where ./install has put it in place; it is for x86-64 Linux and needs memcpy and nothing else. This header
+ * is C99, and C++ reads it too; nothing older than C99 does (stdint.h, inline).
+ *
+ * The archive allocates nothing, keeps nothing between calls and stops no program: every body and every
+ * listing, whatever bytes it holds, gets one of the answers below. Calls from several threads at once are
+ * fine as long as none of them writes what another one uses. A call takes less than 8 KiB of stack:
+ * examples/stack_test.c measures some 3,000 bytes, over every opcode and kind. No theorem says so.
  *
  * What the caller owes, in every call:
  *   - both pointers are non-null and good for their lengths. With a length of 0 pass any non-null
@@ -34,7 +38,7 @@ enum {
 /* The answers. Where several apply the lowest is given. */
 enum {
 	/* The text was printed. The length is the number of bytes written, from the start of the buffer;
-	   no byte behind them was touched, and no byte 0 is put at the end. */
+	   no byte after them was touched, and no byte 0 is put at the end. */
 	MASM_PRINTED = 0,
 	/* The mode is neither 0 nor 1. */
 	MASM_BAD_MODE = 1,
