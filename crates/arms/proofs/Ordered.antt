@@ -21,6 +21,7 @@ use Rattle.places.specs.declared.Place.the-variants as place
 use Rattle.places.specs.declared.Plan.{Plan}
 use Rattle.places.specs.Labels.{labelNumber}
 use Rattle.places.specs.Places.{operandShown, itemAt, itemsAt}
+use Rattle.places.specs.Order.{counted, isNothing, fromTheLeft}
 use Rattle.bodies.proofs.Picks.{neither-left, neither-right}
 use Rattle.names.specs.declared.Arm.{Arm}
 use Rattle.names.specs.declared.Arm.the-variants.{
@@ -67,7 +68,6 @@ use Rattle.arms.specs.Tests.{isBranch, isXbegin, lslSource}
 use Rattle.arms.specs.Labels.{sizeLabel, lssLabel, tbyteLabel}
 use Rattle.arms.specs.Plans.{plain, labelled, st, named, none, one, two, three, spread, general, never, always, byRegisters, generally, movsLabel, fadd, planOf}
 use Rattle.arms.specs.Shape.{shapeRefused}
-use Rattle.arms.proofs.Order.{counted, isNothing, fromTheLeft}
 use Rattle.arms.proofs.ByArm.{first-there, both-there, at-lsl, at-lss, at-invlpgb, at-fadd}
 
 nothing-is-absent : (o : Operand) → isNothing (shownOf o) ≡ isAbsent o

@@ -15,6 +15,7 @@ use Rattle.numerals.specs.Numerals.{numeral}
 use Rattle.names.specs.Labels.{labels, labelWord}
 use Rattle.names.specs.Registers.{registerName}
 use Rattle.names.specs.declared.Arm.{Arm}
+use Rattle.names.proofs.ArmGroups.{not-one-of}
 use Rattle.operands.specs.Kinds.{isAbsent, isRegister, isMemory}
 use Rattle.operands.specs.Parts.{shownOf, segmentOf, immediateKind, immediateOf, bare}
 use Rattle.operands.specs.RegisterBytes.{st0}
@@ -46,7 +47,6 @@ use Rattle.lines.specs.Items.{absoluteText, branchText, shownText, itemT
 use Rattle.lines.specs.Head.{headOf}
 use Rattle.lines.specs.Text.{headText, shows, partedText, itemsText, itemsFrom, lineText, lineBy}
 use Rattle.lines.specs.Code.{shownSegment, frontText, registerText, placeAt, separatorAt}
-use Rattle.lines.proofs.Groups.{not-one-of}
 
 -- a table's end may have an empty word more
 empty-last : (ws : List (List ℕ)) (n : ℕ) → getD (ws ++ ([] ∷ [])) n [] ≡ getD ws n []
