@@ -248,16 +248,12 @@ module _ (mode : Mode) (i : Instruction) (plan : Plan) where
 
   -- place k as the code has it, and whether it shows something
   module _ (k : ℕ) (h : k < 4) {p : Place} (there : p ≡ placeAt plan k) {shown : Bool} (is : shown ≡ shows (itemAt mode i p .shown)) where
-    -- a place that shows something is put after what parts it; one that does not adds nothing
-    pub items-shown : shown ≡ true → itemsFrom k (itemsAt mode i plan) ≡ separatorAt k ++ (itemText (itemAt mode i p) ++ itemsFrom (k + 1) (itemsAt mode i plan))
+    -- a place that shows something is put after what parts it
+    pub items-shown : not shown ≡ false → itemsFrom k (itemsAt mode i plan) ≡ separatorAt k ++ (itemText (itemAt mode i p) ++ itemsFrom (k + 1) (itemsAt mode i plan))
     unfolding partedText
     items-shown t =
         items-next k h
-        ∙ rw (← there, ← is, t) (append-assoc (separatorAt k) (itemText (itemAt mode i p)) (itemsFrom (k + 1) (itemsAt mode i plan)))
-
-    pub items-hidden : shown ≡ false → itemsFrom k (itemsAt mode i plan) ≡ itemsFrom (k + 1) (itemsAt mode i plan)
-    unfolding partedText
-    items-hidden t = items-next k h ∙ rw (← there, ← is, t)
+        ∙ rw (← there, ← is, sym (Bool·not-not shown) ∙ ap not t) (append-assoc (separatorAt k) (itemText (itemAt mode i p)) (itemsFrom (k + 1) (itemsAt mode i plan)))
 
 -- the line of a body: its head, and its places after it
 pub line-by :
