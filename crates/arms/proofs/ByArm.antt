@@ -27,8 +27,8 @@ use Rattle.names.specs.declared.Arm.the-variants.{
   Fbld,
   Fbstp,
 }
+use Rattle.names.proofs.ArmGroups.{Each}
 use Rattle.arms.specs.Shape.{shapeRefused, lslRefused, faddRefused, fbldRefused}
-use Rattle.arms.proofs.Groups.{Each}
 
 -- a rule that an absent operand breaks covers the rule that the operand is there
 absent-covered : (f : Operand → Bool) → f Absent ≡ true → (o : Operand) → (isAbsent o || f o) ≡ f o

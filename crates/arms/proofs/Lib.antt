@@ -1,11 +1,9 @@
 -- The laws that the proofs of this crate, and crates above, cite.
 pub mod Said
 pub mod Mmword
-pub mod Groups
 pub mod ByArm
 pub mod Operands
 pub mod Labelled
 pub mod MissingSizes
 pub mod Lacking
-pub mod Order
 pub mod Ordered

@@ -1,9 +1,13 @@
--- A record whose operands are counted from the left shows its operands from the left, unless its shape is refused.
+-- A record whose operands are counted from the left, as every body's are, shows its operands from the left, unless its shape is refused.
 -- Assumes nothing.
 use mathlib.Core.Path.{_≡_, refl, sym, _∙_}
-use mathlib.Core.Bool.{Bool, true, false, cond, not, _&&_, or-true}
-use Prim.Native.Nat.{ℕ}
-use lib.Dec.{eqb}
+use mathlib.Core.Bool.{Bool, true, false, cond, not, _&&_, _||_, or-true}
+use mathlib.Core.List.{List}
+use Prim.Native.Nat.{ℕ, suc}
+use native.Mathlib.Decide.{decLt}
+use native.Mathlib.Omega.{arith}
+use lib.Dec.{eqb, ltb}
+use borrow.Author.Tests.{lt-ltb, le-ltb}
 use Rattle.operands.specs.Kinds.{isAbsent, isRegister, isRegisterR, isMemory}
 use Rattle.operands.specs.Parts.{operandIn, shownOf, isSt0}
 use Rattle.operands.specs.RegisterBytes.{eax, xmm0}
@@ -21,6 +25,10 @@ use Rattle.places.specs.declared.Place.the-variants as place
 use Rattle.places.specs.declared.Plan.{Plan}
 use Rattle.places.specs.Labels.{labelNumber}
 use Rattle.places.specs.Places.{operandShown, itemAt, itemsAt}
+use Rattle.places.specs.Order.{counted, isNothing, fromTheLeft}
+use Rattle.bodies.specs.Body.{countOf}
+use Rattle.bodies.specs.Decoding.{instructionOf}
+use Rattle.bodies.proofs.Accepted.{absent-from-count}
 use Rattle.bodies.proofs.Picks.{neither-left, neither-right}
 use Rattle.names.specs.declared.Arm.{Arm}
 use Rattle.names.specs.declared.Arm.the-variants.{
@@ -67,7 +75,6 @@ use Rattle.arms.specs.Tests.{isBranch, isXbegin, lslSource}
 use Rattle.arms.specs.Labels.{sizeLabel, lssLabel, tbyteLabel}
 use Rattle.arms.specs.Plans.{plain, labelled, st, named, none, one, two, three, spread, general, never, always, byRegisters, generally, movsLabel, fadd, planOf}
 use Rattle.arms.specs.Shape.{shapeRefused}
-use Rattle.arms.proofs.Order.{counted, isNothing, fromTheLeft}
 use Rattle.arms.proofs.ByArm.{first-there, both-there, at-lsl, at-lss, at-invlpgb, at-fadd}
 
 nothing-is-absent : (o : Operand) → isNothing (shownOf o) ≡ isAbsent o
@@ -197,3 +204,25 @@ from-the-left mode Fcom i e s = ordered-one mode i (labelled (sizeLabel (i .size
 from-the-left mode Fadd i e s = ordered-fadd mode i (neither-left _ _ (neither-left _ _ (sym (at-fadd i) ∙ s)))
 from-the-left mode Fbld i e s = ordered-one mode i (place.Operand 1 (labelNumber (tbyteLabel (i .size))) Own true)
 from-the-left mode Fbstp i e s = ordered-one mode i (labelled (tbyteLabel (i .size)) Own 0)
+
+-- after a place that is not before the count stands none that is
+before-count : (k n : ℕ) → (not (not (ltb k n)) || not (ltb (suc k) n)) ≡ true
+before-count k n =
+    elim (decLt k n) [
+      | yes h ↦ rw (lt-ltb k n h)
+      | no h ↦ rw (le-ltb k n (omega arith), le-ltb (suc k) n (omega arith))
+    ]
+
+-- the operands of a body are counted from the left
+pub body-counted : (body : List ℕ) → counted (instructionOf body) ≡ true
+unfolding instructionOf
+body-counted body =
+    let n = countOf body in
+    rw (absent-from-count body 0, absent-from-count body 1, absent-from-count body 2, absent-from-count body 3, before-count 0 n, before-count 1 n, before-count 2 n)
+
+-- so a body whose shape is not refused shows its operands from the left
+pub body-from-the-left :
+    (mode : Mode) (arm : Arm) (body : List ℕ) →
+    shapeRefused arm (instructionOf body) ≡ false →
+    fromTheLeft (itemsAt mode (instructionOf body) (planOf arm (instructionOf body))) ≡ true
+body-from-the-left mode arm body s = from-the-left mode arm (instructionOf body) (body-counted body) s

@@ -15,6 +15,7 @@ use Rattle.numerals.specs.Numerals.{numeral}
 use Rattle.names.specs.Labels.{labels, labelWord}
 use Rattle.names.specs.Registers.{registerName}
 use Rattle.names.specs.declared.Arm.{Arm}
+use Rattle.names.proofs.ArmGroups.{not-one-of}
 use Rattle.operands.specs.Kinds.{isAbsent, isRegister, isMemory}
 use Rattle.operands.specs.Parts.{shownOf, segmentOf, immediateKind, immediateOf, bare}
 use Rattle.operands.specs.RegisterBytes.{st0}
@@ -46,7 +47,6 @@ use Rattle.lines.specs.Items.{absoluteText, branchText, shownText, itemT
 use Rattle.lines.specs.Head.{headOf}
 use Rattle.lines.specs.Text.{headText, shows, partedText, itemsText, itemsFrom, lineText, lineBy}
 use Rattle.lines.specs.Code.{shownSegment, frontText, registerText, placeAt, separatorAt}
-use Rattle.lines.proofs.Groups.{not-one-of}
 
 -- a table's end may have an empty word more
 empty-last : (ws : List (List ℕ)) (n : ℕ) → getD (ws ++ ([] ∷ [])) n [] ≡ getD ws n []
@@ -248,16 +248,12 @@ module _ (mode : Mode) (i : Instruction) (plan : Plan) where
 
   -- place k as the code has it, and whether it shows something
   module _ (k : ℕ) (h : k < 4) {p : Place} (there : p ≡ placeAt plan k) {shown : Bool} (is : shown ≡ shows (itemAt mode i p .shown)) where
-    -- a place that shows something is put after what parts it; one that does not adds nothing
-    pub items-shown : shown ≡ true → itemsFrom k (itemsAt mode i plan) ≡ separatorAt k ++ (itemText (itemAt mode i p) ++ itemsFrom (k + 1) (itemsAt mode i plan))
+    -- a place that shows something is put after what parts it
+    pub items-shown : not shown ≡ false → itemsFrom k (itemsAt mode i plan) ≡ separatorAt k ++ (itemText (itemAt mode i p) ++ itemsFrom (k + 1) (itemsAt mode i plan))
     unfolding partedText
     items-shown t =
         items-next k h
-        ∙ rw (← there, ← is, t) (append-assoc (separatorAt k) (itemText (itemAt mode i p)) (itemsFrom (k + 1) (itemsAt mode i plan)))
-
-    pub items-hidden : shown ≡ false → itemsFrom k (itemsAt mode i plan) ≡ itemsFrom (k + 1) (itemsAt mode i plan)
-    unfolding partedText
-    items-hidden t = items-next k h ∙ rw (← there, ← is, t)
+        ∙ rw (← there, ← is, sym (Bool·not-not shown) ∙ ap not t) (append-assoc (separatorAt k) (itemText (itemAt mode i p)) (itemsFrom (k + 1) (itemsAt mode i plan)))
 
 -- the line of a body: its head, and its places after it
 pub line-by :

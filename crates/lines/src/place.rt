@@ -1,5 +1,6 @@
 // A place of a line, printed straight from the record's body.
 ghost use mathlib.Core.Path.{_≡_};
+ghost use mathlib.Core.Bool.{true};
 ghost use Prim.Native.Nat.{_≤_};
 ghost use Rattle.text.specs.Write.{Room, Put};
 ghost use Rattle.names.specs.Registers.{RegisterTable};
@@ -8,6 +9,7 @@ ghost use Rattle.bodies.specs.Body.{countOf};
 ghost use Rattle.bodies.specs.Refusals.{Whole};
 ghost use Rattle.bodies.specs.Decoding.{instructionOf};
 ghost use Rattle.places.specs.Labels.{labelAt};
+ghost use Rattle.places.specs.Order.{fromTheLeft};
 ghost use Rattle.places.specs.Places.{operandShown, branchOf, itemAt, itemsAt};
 ghost use Rattle.lines.specs.Fronts.{segmentText};
 ghost use Rattle.lines.specs.Items.{absoluteText, signText, branchText, shownText, itemText};
@@ -313,7 +315,7 @@ fn place_at(plan: Plan, k: u8) -> Place
     }
 }
 
-// The places of a plan, each after what parts it from the text before.
+// The places of a plan, each after what parts it from the text before, up to the first that shows nothing.
 pub fn put_places(
     buf: &mut [u8],
     at: usize,
@@ -329,6 +331,7 @@ pub fn put_places(
     requires { ⌜ LabelTable (now «label_letters») (now «label_starts») ⌝ }
     requires { ⌜ Whole (now body) ⌝ }
     requires { ⌜ countOf (now body) ≤ 4 ⌝ }
+    requires { ⌜ fromTheLeft (itemsAt mode (instructionOf (now body)) plan) ≡ true ⌝ }
     requires { ⌜ Room (now buf) at (itemsText (itemsAt mode (instructionOf (now body)) plan)) ⌝ }
     ensures { λ r. ⌜ Put (now (buf .entry)) at (itemsText (itemsAt mode (instructionOf (now (body .entry))) plan)) r (now (buf .exit)) ⌝ }
 {
@@ -336,20 +339,21 @@ pub fn put_places(
     let mut next = at;
     while k < 4 {
         let place = place_at(plan, k);
-        if shows_something(body, place) {
-            next = put_separator(buf, next, k);
-            next = put_place(
-                buf,
-                next,
-                register_letters,
-                register_starts,
-                label_letters,
-                label_starts,
-                body,
-                mode,
-                place,
-            );
+        if !shows_something(body, place) {
+            return next;
         }
+        next = put_separator(buf, next, k);
+        next = put_place(
+            buf,
+            next,
+            register_letters,
+            register_starts,
+            label_letters,
+            label_starts,
+            body,
+            mode,
+            place,
+        );
         k += 1;
     }
     next

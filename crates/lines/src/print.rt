@@ -1,4 +1,6 @@
 // A whole line of a record that is not refused. The tables are lent.
+ghost use mathlib.Core.Path.{_≡_};
+ghost use mathlib.Core.Bool.{true};
 ghost use Rattle.text.specs.Write.{Room, Put};
 ghost use Rattle.names.specs.Opcodes.{MnemonicTable};
 ghost use Rattle.names.specs.Registers.{RegisterTable};
@@ -7,6 +9,8 @@ ghost use Prim.Native.Nat.{_≤_};
 ghost use Rattle.bodies.specs.Body.{countOf};
 ghost use Rattle.bodies.specs.Refusals.{Whole};
 ghost use Rattle.bodies.specs.Decoding.{instructionOf};
+ghost use Rattle.places.specs.Order.{fromTheLeft};
+ghost use Rattle.places.specs.Places.{itemsAt};
 ghost use Rattle.lines.specs.Text.{lineBy, lineText};
 use crate::heads;
 use crate::place;
@@ -37,6 +41,7 @@ pub fn put_line(
     requires { ⌜ LabelTable (now «label_letters») (now «label_starts») ⌝ }
     requires { ⌜ Whole (now body) ⌝ }
     requires { ⌜ countOf (now body) ≤ 4 ⌝ }
+    requires { ⌜ fromTheLeft (itemsAt mode (instructionOf (now body)) plan) ≡ true ⌝ }
     requires { ⌜ Room (now buf) at (lineText (lineBy mode arm plan (instructionOf (now body)))) ⌝ }
     ensures { λ r. ⌜ Put (now (buf .entry)) at (lineText (lineBy mode arm plan (instructionOf (now (body .entry))))) r (now (buf .exit)) ⌝ }
 {

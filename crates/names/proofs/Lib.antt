@@ -1,2 +1,3 @@
 pub mod Rules
 pub mod ArmNumbers
+pub mod ArmGroups

@@ -96,7 +96,7 @@ word-from before (w ∷ ws) (suc k) h =
     rw (← length-append before w, ← append-assoc before w (join ws)) (word-from (before ++ w) ws k (le-of-suc-le-suc h))
 
 -- the length of a part is the distance of its offsets
-length-part : (xs : List ℕ) (from to : ℕ) → to ≤ length xs → length (part xs from to) ≡ to - from
+pub length-part : (xs : List ℕ) (from to : ℕ) → to ≤ length xs → length (part xs from to) ≡ to - from
 unfolding part
 length-part xs from to h = length-take-le (to - from) (drop from xs) (rw length-drop (omega arith))
 

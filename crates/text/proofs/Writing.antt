@@ -2,7 +2,7 @@
 -- Assumes nothing.
 use mathlib.Core.Path.{_≡_, refl, sym, ap, _∙_}
 use mathlib.Core.List.{List, [], _∷_, _++_, append-assoc, append-nil}
-use Prim.Native.Nat.{ℕ, suc, _+_, _≤_, _<_}
+use Prim.Native.Nat.{ℕ, suc, _+_, _-_, _≤_, _<_}
 use native.Mathlib.Nat.{add-assoc, add-zero}
 use native.Mathlib.Numerals.{add-one}
 use native.Mathlib.Omega.{arith}
@@ -56,6 +56,17 @@ module _ (xs : List ℕ) (at : ℕ) where
         ∙ ap (λ (q : List ℕ). (take at xs ++ s) ++ (t ++ q)) behind
         ∙ simp append-assoc
 
+    -- a text at the place of one that is no longer leaves nothing of that
+    write-same : (t : List ℕ) → length s ≤ length t → write (write xs at s) at t ≡ write xs at t
+    unfolding write
+    write-same t h =
+        let more = length t - length s in
+        let end : at + length t ≡ at + length s + more = omega arith in
+        let behind : drop (at + length t) (write xs at s) ≡ drop (at + length t) xs =
+        rw end (sym (drop-drop more (at + length s) (write xs at s)) ∙ ap (drop more) drop-write ∙ drop-drop more (at + length s) xs) in
+        ap (λ (p : List ℕ). p ++ (t ++ drop (at + length t) (write xs at s))) (take-at (take at xs) (s ++ drop (at + length s) xs) at (length-take-le at xs (omega arith)))
+        ∙ ap (λ (q : List ℕ). take at xs ++ (t ++ q)) behind
+
   module _ (s : List ℕ) (b : ℕ) (room : at + length s < length xs) where
     -- one byte behind a text that stands already: a loop that writes from the front
     pub write-next : set (write xs at s) (at + length s) b ≡ write xs at (s ++ (b ∷ []))
@@ -73,6 +84,18 @@ module _ (xs : List ℕ) (at : ℕ) where
         ∙ rw (getD-set-same xs n b 0 room, drop-set-lt (suc n) xs n b (omega arith)) in
         let past : at + length (s ++ (b ∷ [])) ≡ suc n = rw length-append (omega arith) in
         rw (take-set-le at xs n b (omega arith), behind, past, append-assoc)
+
+-- a text over the end of one that ends no later
+pub write-over :
+    (xs : List ℕ) (at : ℕ) (u v t : List ℕ) →
+    at + length (u ++ v) ≤ length xs →
+    length v ≤ length t →
+    write (write xs at (u ++ v)) (at + length u) t ≡ write xs at (u ++ t)
+write-over xs at u v t room h =
+    let first : at + length u ≤ length xs = omega (arith, length-append u v) in
+    ap (λ (ys : List ℕ). write ys (at + length u) t) (sym (write-write xs at u first v))
+    ∙ write-same (write xs at u) (at + length u) v (rw (length-write xs at u first) (omega (arith, length-append u v))) t h
+    ∙ write-write xs at u first t
 
 -- one byte more of a text that is written from the front
 pub write-more : (xs : List ℕ) (at : ℕ) (t : List ℕ) (i : ℕ) → at + length t ≤ length xs → i < length t → set (write xs at (take i t)) (at + i) (getD t i 0) ≡ write xs at (take (i + 1) t)

@@ -8,9 +8,9 @@ use denote.Ref.{now}
 use Rattle.operands.specs.Kinds.{isAbsent, isMemory}
 use Rattle.names.specs.declared.Arm.{Arm}
 use Rattle.names.specs.declared.Arm.the-variants.{Hreset, Lsl, Prefetch, Sgdt, Lss, Invlpgb, Scas, Lods, Incssp, Wrss, Pblendvb, Lea, Fcom, Fadd, Fbld, Fbstp}
+use Rattle.names.proofs.ArmGroups.{at-group, of-group, others}
 use Rattle.bodies.specs.Decoding.{instructionOf}
 use Rattle.arms.specs.Shape.{shapeRefused}
-use Rattle.arms.proofs.Groups.{at-group, of-group, others}
 use Rattle.arms.proofs.ByArm.{first-there, first-memory, both-there, at-lsl, at-lss, at-invlpgb, at-lods, at-incssp, at-wrss, at-fcom, at-fadd, at-fbld}
 use borrow.Author.Needs.{needs}
 use Rattle.arms.proofs.shapes.shape_refused.Statement.{statement}

@@ -4,8 +4,8 @@ use mathlib.Core.Bool.{true, false}
 use mathlib.Core.List.{[], _∷_}
 use mathlib.Core.Path.{sym}
 use Rattle.names.specs.declared.Arm.the-variants.{Movs, Cmps, Scas, Lods}
+use Rattle.names.proofs.ArmGroups.{of-group, others}
 use Rattle.lines.specs.Head.{canRep}
-use Rattle.lines.proofs.Groups.{of-group, others}
 use Rattle.lines.proofs.heads.can_rep.Statement.{statement}
 use Rattle.lines.proofs.heads.can_rep.Tie as tie
 

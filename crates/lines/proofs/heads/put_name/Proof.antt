@@ -5,7 +5,7 @@ use mathlib.Core.Path.{sym}
 use Rattle.text.proofs.Putting.{room-as, put-as}
 use Rattle.names.specs.Among.{isOneOf}
 use Rattle.names.specs.declared.Arm.{Arm}
-use Rattle.lines.proofs.Groups.{of-group, others}
+use Rattle.names.proofs.ArmGroups.{of-group, others}
 use Rattle.lines.proofs.HeadTexts.{name-jmpf, name-callf, name-feni, name-fdisi, name-fsetpm, name-own, renamed}
 use borrow.Author.Needs.{needs}
 use Rattle.lines.proofs.heads.put_name.Statement.{statement}

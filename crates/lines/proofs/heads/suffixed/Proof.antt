@@ -5,8 +5,8 @@ use mathlib.Core.List.{[], _∷_}
 use mathlib.Core.Path.{sym}
 use Rattle.names.specs.declared.Arm.{Arm}
 use Rattle.names.specs.declared.Arm.the-variants.{Incssp, Wrss, Pushf}
+use Rattle.names.proofs.ArmGroups.{of-group, others}
 use Rattle.lines.specs.Head.{suffixed}
-use Rattle.lines.proofs.Groups.{of-group, others}
 use borrow.Author.Needs.{needs}
 use Rattle.lines.proofs.heads.suffixed.Statement.{statement}
 use Rattle.lines.proofs.heads.suffixed.Tie as tie

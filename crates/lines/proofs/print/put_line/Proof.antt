@@ -15,17 +15,17 @@ flags-requires : tie.Need-flags-requires
 flags-requires c κs = search needs
 
 put-head-requires : tie.Need-put-head-requires
-put-head-requires c κs = ((c .before .before .before .before .before .pre) .0, first _ (room-as (line-by ((c .before .before .before .before .before .args) .mode) ((c .before .before .before .before .before .args) .arm) ((c .before .before .before .before .before .args) .plan) (now ((c .before .before .before .before .before .args) .body)) ((c .before .before .opcode) .ensures) ((c .before .flags) .ensures)) ((c .before .before .before .before .before .pre) .1 .1 .1 .1 .1)))
+put-head-requires c κs = ((c .before .before .before .before .before .pre) .0, first _ (room-as (line-by ((c .before .before .before .before .before .args) .mode) ((c .before .before .before .before .before .args) .arm) ((c .before .before .before .before .before .args) .plan) (now ((c .before .before .before .before .before .args) .body)) ((c .before .before .opcode) .ensures) ((c .before .flags) .ensures)) ((c .before .before .before .before .before .pre) .1 .1 .1 .1 .1 .1)))
 
 put-places-requires : tie.Need-put-places-requires
-put-places-requires c κs = ((c .before .before .before .before .before .before .before .before .before .pre) .1 .0, ((c .before .before .before .before .before .before .before .before .before .pre) .1 .1 .0, ((c .before .before .before .before .before .before .before .before .before .pre) .1 .1 .1 .0, ((c .before .before .before .before .before .before .before .before .before .pre) .1 .1 .1 .1 .0, rest (room-as (line-by ((c .before .before .before .before .before .before .before .before .before .args) .mode) ((c .before .before .before .before .before .before .before .before .before .args) .arm) ((c .before .before .before .before .before .before .before .before .before .args) .plan) (now ((c .before .before .before .before .before .before .before .before .before .args) .body)) ((c .before .before .before .before .before .before .opcode) .ensures) ((c .before .before .before .before .before .flags) .ensures)) ((c .before .before .before .before .before .before .before .before .before .pre) .1 .1 .1 .1 .1)) ((c .before .before .before .put-head) .ensures)))))
+put-places-requires c κs = ((c .before .before .before .before .before .before .before .before .before .pre) .1 .0, ((c .before .before .before .before .before .before .before .before .before .pre) .1 .1 .0, ((c .before .before .before .before .before .before .before .before .before .pre) .1 .1 .1 .0, ((c .before .before .before .before .before .before .before .before .before .pre) .1 .1 .1 .1 .0, ((c .before .before .before .before .before .before .before .before .before .pre) .1 .1 .1 .1 .1 .0, rest (room-as (line-by ((c .before .before .before .before .before .before .before .before .before .args) .mode) ((c .before .before .before .before .before .before .before .before .before .args) .arm) ((c .before .before .before .before .before .before .before .before .before .args) .plan) (now ((c .before .before .before .before .before .before .before .before .before .args) .body)) ((c .before .before .before .before .before .before .opcode) .ensures) ((c .before .before .before .before .before .flags) .ensures)) ((c .before .before .before .before .before .before .before .before .before .pre) .1 .1 .1 .1 .1 .1)) ((c .before .before .before .put-head) .ensures))))))
 
 same-length : tie.Need-same-length
 same-length c = search needs
 
 returns : tie.Need-returns
 returns c = let by = line-by ((c .before .before .before .before .before .before .before .before .before .before .before .before .args) .mode) ((c .before .before .before .before .before .before .before .before .before .before .before .before .args) .arm) ((c .before .before .before .before .before .before .before .before .before .before .before .before .args) .plan) (now ((c .before .before .before .before .before .before .before .before .before .before .before .before .args) .body)) ((c .before .before .before .before .before .before .before .before .before .opcode) .ensures) ((c .before .before .before .before .before .before .before .before .flags) .ensures) in
-    put-as (sym by) (and-then (room-as by ((c .before .before .before .before .before .before .before .before .before .before .before .before .pre) .1 .1 .1 .1 .1)) ((c .before .before .before .before .before .before .put-head) .ensures) ((c .before .before .put-places) .ensures))
+    put-as (sym by) (and-then (room-as by ((c .before .before .before .before .before .before .before .before .before .before .before .before .pre) .1 .1 .1 .1 .1 .1)) ((c .before .before .before .before .before .before .put-head) .ensures) ((c .before .before .put-places) .ensures))
 
 pub put-line-spec : {M : Type 1} → statement M
 put-line-spec =

@@ -1,4 +1,5 @@
--- These definitions serve laws alone, no promise: operands from the left, with none left out, of a record and of a line.
+-- Operands from the left, with none left out, of a record and of a line. No promise names these definitions, only contracts inside
+-- the printer.
 -- Assumes nothing.
 use mathlib.Core.Bool.{Bool, true, false, not, _&&_, _||_}
 use Rattle.operands.specs.Kinds.{isAbsent}
