@@ -13,7 +13,7 @@ use Rattle.lines.specs.declared.Line.{Line}
 use Rattle.lines.specs.declared.Name.{Name as Mnemonic}
 use Rattle.lines.specs.declared.Name.the-variants.{Opcode, Feni, Fdisi, Fsetpm}
 pub use Rattle.arms.proofs.Labelled.{isMissing, lacksLabel}
-pub use Rattle.arms.proofs.Order.{counted, isNothing, fromTheLeft}
+pub use Rattle.places.specs.Order.{counted, isNothing, fromTheLeft}
 
 -- a register byte that has a name
 pub record Named (reg : ℕ) : Type 0 where

@@ -20,7 +20,11 @@ use Rattle.arms.specs.Shape.{shapeRefused}
 use Rattle.arms.specs.Size.{sizeRefused}
 use Rattle.arms.specs.Plans.{planOf}
 use Rattle.arms.specs.Missing.{planLacks}
+use Rattle.places.specs.Order.{fromTheLeft}
+use Rattle.places.specs.Places.{itemsAt}
+use Rattle.branches.specs.declared.Mode.{Mode}
 use Rattle.arms.proofs.Lacking.{plan-lacking}
+use Rattle.arms.proofs.Ordered.{body-from-the-left}
 use Rattle.records.specs.Records.{modeRefused, armAt, refusals}
 use Rattle.records.specs.Judged.{judgedAs, judged}
 use Rattle.records.specs.declared.Asked.{Asked}
@@ -124,3 +128,7 @@ kept asked body e =
       held = whole body (n .1 .0);
       few = few-counted body (n .1 .1 .0);
     }
+
+-- the plan of an accepted record shows its operands from the left
+pub plan-from-the-left : {asked : Asked} {body : List ℕ} {plan : Plan} (mode : Mode) → Kept asked body → plan ≡ planOf (armAt body) (instructionOf body) → fromTheLeft (itemsAt mode (instructionOf body) plan) ≡ true
+plan-from-the-left {body = body} mode k p = rw p (body-from-the-left mode (armAt body) body (k .no-shape))
