@@ -4,8 +4,8 @@ ghost use mathlib.Core.Bool.{true, false, cond, _&&_};
 ghost use lib.Dec.{eqb};
 ghost use Rattle.places.specs.Labels.{labelNumber};
 ghost use Rattle.bodies.specs.Refusals.{Whole};
-ghost use Rattle.bodies.specs.Decoding.{operandAt, instructionOf};
-ghost use Rattle.arms.specs.Tests.{lslSource, hasVector};
+ghost use Rattle.bodies.specs.Decoding.{instructionOf};
+ghost use Rattle.arms.specs.Tests.{hasVector};
 ghost use Rattle.arms.specs.Plans.{
   plain as plainPlace,
   st as stPlace,
@@ -26,19 +26,17 @@ use crate::labels::general_label;
 use crate::labels::lss_label;
 use crate::labels::size_label;
 use crate::labels::tbyte_label;
+use crate::tests::has_vector;
+use crate::tests::lsl_source;
 use bodies::fields;
-use bodies::parts::operand_at;
+use bodies::kinds::immediate_kind_at;
+use bodies::kinds::is_absent_at;
+use bodies::kinds::is_memory_at;
+use bodies::kinds::is_register_at;
+use bodies::kinds::is_register_r_at;
 use names::Arm;
-use operands::Operand;
 use operands::kinds::I8;
 use operands::kinds::I32;
-use operands::kinds::is_absent;
-use operands::kinds::is_memory;
-use operands::kinds::is_register;
-use operands::kinds::is_register_r;
-use operands::parts::immediate_kind;
-use operands::parts::is_vector;
-use operands::parts::register_of;
 use places::Place;
 use places::Plan;
 use places::Segment;
@@ -124,18 +122,7 @@ fn spread(first: u8, later: u8, segment: Segment) -> Plan
     }
 }
 
-fn has_vector(body: &[u8]) -> bool
-    requires { ⌜ Whole (now body) ⌝ }
-    ensures { λ r. ⌜ r ≡ hasVector (instructionOf (now (body .entry))) ⌝ }
-{
-    let a = is_vector(operand_at(body, 0));
-    let b = is_vector(operand_at(body, 1));
-    let c = is_vector(operand_at(body, 2));
-    let d = is_vector(operand_at(body, 3));
-    a | b | c | d
-}
-
-// Whether the size is 8 and such a register is there: the registers are looked at for that size alone.
+// Whether the size is 8 and a vector register is there: the registers are looked at for that size alone.
 fn wants_mmword(body: &[u8], size: u8) -> bool
     requires { ⌜ Whole (now body) ⌝ }
     ensures { λ r. ⌜ r ≡ (eqb size 8 && hasVector (instructionOf (now (body .entry)))) ⌝ }
@@ -204,7 +191,7 @@ fn relative_branch(body: &[u8]) -> Plan
     requires { ⌜ Whole (now body) ⌝ }
     ensures { λ r. ⌜ r ≡ planOf Arm.Branch (instructionOf (now (body .entry))) ⌝ }
 {
-    let kind = immediate_kind(operand_at(body, 0));
+    let kind = immediate_kind_at(body, 0);
     if kind == I8 {
         one(Place::Branch)
     } else if kind == I32 {
@@ -218,28 +205,19 @@ fn xbegin(body: &[u8]) -> Plan
     requires { ⌜ Whole (now body) ⌝ }
     ensures { λ r. ⌜ r ≡ planOf Arm.Xbegin (instructionOf (now (body .entry))) ⌝ }
 {
-    if immediate_kind(operand_at(body, 0)) == I32 {
+    if immediate_kind_at(body, 0) == I32 {
         one(Place::Branch)
     } else {
         generally(body)
     }
 }
 
-// The source of LSL takes the destination's bank.
-pub fn lsl_source(a: Operand, b: Operand) -> u8
-    ensures { λ r. ⌜ r ≡ lslSource a b ⌝ }
-{
-    8 * (register_of(a) / 8) + register_of(b) % 8
-}
-
 fn lsl(body: &[u8]) -> Plan
     requires { ⌜ Whole (now body) ⌝ }
     ensures { λ r. ⌜ r ≡ planOf Arm.Lsl (instructionOf (now (body .entry))) ⌝ }
 {
-    let a = operand_at(body, 0);
-    let b = operand_at(body, 1);
-    if is_register(a) & is_register(b) {
-        two(plain(0), Place::Register(lsl_source(a, b)))
+    if is_register_at(body, 0) & is_register_at(body, 1) {
+        two(plain(0), Place::Register(lsl_source(body)))
     } else {
         generally(body)
     }
@@ -250,7 +228,7 @@ fn nop(body: &[u8]) -> Plan
     requires { ⌜ Whole (now body) ⌝ }
     ensures { λ r. ⌜ r ≡ planOf Arm.Nop (instructionOf (now (body .entry))) ⌝ }
 {
-    if is_absent(operand_at(body, 1)) {
+    if is_absent_at(body, 1) {
         generally(body)
     } else {
         none()
@@ -273,9 +251,9 @@ fn fadd(body: &[u8]) -> Plan
     requires { ⌜ Whole (now body) ⌝ }
     ensures { λ r. ⌜ r ≡ planOf Arm.Fadd (instructionOf (now (body .entry))) ⌝ }
 {
-    if is_memory(operand_at(body, 1)) {
+    if is_memory_at(body, 1) {
         one(labelled(size_label(fields::size(body)), Segment::Shown, 1))
-    } else if is_register_r(operand_at(body, 0)) {
+    } else if is_register_r_at(body, 0) {
         two(st(0), plain(1))
     } else {
         two(plain(0), st(1))

@@ -6,17 +6,11 @@ use borrow.Author.Needs.{needs}
 use Rattle.arms.proofs.plans.lsl.Statement.{statement}
 use Rattle.arms.proofs.plans.lsl.Tie as tie
 
-operand-at-requires : tie.Need-operand-at-requires
-operand-at-requires c κs = search needs
+is-register-at-requires : tie.Need-is-register-at-requires
+is-register-at-requires c κs = search needs
 
-operand-at-requires-2 : tie.Need-operand-at-requires-2
-operand-at-requires-2 c κs = search needs
-
-is-register-requires : tie.Need-is-register-requires
-is-register-requires c κs = search needs
-
-is-register-requires-2 : tie.Need-is-register-requires-2
-is-register-requires-2 c κs = search needs
+is-register-at-requires-2 : tie.Need-is-register-at-requires-2
+is-register-at-requires-2 c κs = search needs
 
 plain-requires : tie.Need-plain-requires
 plain-requires c κs = search needs
@@ -32,20 +26,18 @@ generally-requires c κs = search needs
 
 returns : tie.Need-returns
 unfolding planOf instructionOf
-returns c = rw ((c .two) .ensures, (c .before .lsl-source) .ensures, (c .before .before .plain) .ensures, ← (c .before .before .before .before .before .before .before .operand-at) .ensures, ← (c .before .before .before .before .before .before .operand-at2) .ensures, ← (c .before .before .before .before .before .is-register) .ensures, ← (c .before .before .before .before .is-register2) .ensures, (c .before .before .before .if1) .taken)
+returns c = rw ((c .two) .ensures, (c .before .lsl-source) .ensures, (c .before .before .plain) .ensures, ← (c .before .before .before .before .before .is-register-at) .ensures, ← (c .before .before .before .before .is-register-at2) .ensures, (c .before .before .before .if1) .taken)
 
 returns-2 : tie.Need-returns-2
 unfolding planOf instructionOf
-returns-2 c = rw ((c .generally) .ensures, ← (c .before .before .before .before .before .operand-at) .ensures, ← (c .before .before .before .before .operand-at2) .ensures, ← (c .before .before .before .is-register) .ensures, ← (c .before .before .is-register2) .ensures, (c .before .if1) .left)
+returns-2 c = rw ((c .generally) .ensures, ← (c .before .before .before .is-register-at) .ensures, ← (c .before .before .is-register-at2) .ensures, (c .before .if1) .left)
 
 pub lsl-spec : {M : Type 1} → statement M
 lsl-spec =
     tie.close
     (tie.spec
-    operand-at-requires
-    operand-at-requires-2
-    is-register-requires
-    is-register-requires-2
+    is-register-at-requires
+    is-register-at-requires-2
     plain-requires
     lsl-source-requires
     two-requires

@@ -7,11 +7,8 @@ use borrow.Author.Needs.{needs}
 use Rattle.arms.proofs.plans.nop.Statement.{statement}
 use Rattle.arms.proofs.plans.nop.Tie as tie
 
-operand-at-requires : tie.Need-operand-at-requires
-operand-at-requires c κs = search needs
-
-is-absent-requires : tie.Need-is-absent-requires
-is-absent-requires c κs = search needs
+is-absent-at-requires : tie.Need-is-absent-at-requires
+is-absent-at-requires c κs = search needs
 
 generally-requires : tie.Need-generally-requires
 generally-requires c κs = search needs
@@ -21,19 +18,13 @@ none-requires c κs = search needs
 
 returns : tie.Need-returns
 unfolding planOf instructionOf
-returns c = rw ((c .generally) .ensures, ← (c .before .before .before .operand-at) .ensures, said ((c .before .before .is-absent) .ensures) ((c .before .if1) .taken))
+returns c = rw ((c .generally) .ensures, said ((c .before .before .is-absent-at) .ensures) ((c .before .if1) .taken))
 
 returns-2 : tie.Need-returns-2
 unfolding planOf instructionOf
-returns-2 c = rw ((c .none) .ensures, ← (c .before .before .before .operand-at) .ensures, said ((c .before .before .is-absent) .ensures) ((c .before .if1) .left))
+returns-2 c = rw ((c .none) .ensures, said ((c .before .before .is-absent-at) .ensures) ((c .before .if1) .left))
 
 pub nop-spec : {M : Type 1} → statement M
 nop-spec =
     tie.close
-    (tie.spec
-    operand-at-requires
-    is-absent-requires
-    generally-requires
-    none-requires
-    returns
-    returns-2)
+    (tie.spec is-absent-at-requires generally-requires none-requires returns returns-2)
