@@ -13,7 +13,7 @@ use Rattle.operands.specs.declared.Operand.{Operand}
 use Rattle.operands.specs.declared.Operand.the-variants.{Absent, Register, Imm, Absolute16, Absolute32, Memory}
 use Rattle.operands.specs.declared.Address.{Address}
 use Rattle.frames.specs.Numbers.{byte}
-use Rattle.bodies.specs.Body.{countOf, immOf, dispOf, placeOf}
+use Rattle.bodies.specs.Body.{countOf, immOf, placeOf}
 use Rattle.bodies.specs.Decoding.{immediate, operandOf, operandAt}
 use Rattle.bodies.proofs.Picks.{picked}
 use Rattle.bodies.proofs.Accepted.{absent-from-count}
