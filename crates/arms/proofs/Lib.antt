@@ -3,6 +3,7 @@ pub mod Said
 pub mod Mmword
 pub mod Groups
 pub mod ByArm
+pub mod GeneralPath
 pub mod Operands
 pub mod Labelled
 pub mod MissingSizes
