@@ -73,10 +73,10 @@ use Rattle.names.specs.declared.Arm.the-variants.{
   Fbld,
   Fbstp,
 }
-use Rattle.arms.specs.declared.LabelRule.{LabelRule}
 use Rattle.arms.specs.Tests.{isBranch, isXbegin, lslSource, hasVector}
 use Rattle.arms.specs.Labels.{sizeLabel, generalLabel, lssLabel, tbyteLabel}
 use Rattle.arms.specs.Plans.{
+  LabelRule,
   plain,
   labelled,
   st,

@@ -2,6 +2,7 @@
 pub mod Said
 pub mod Mmword
 pub mod ByArm
+pub mod GeneralPath
 pub mod Operands
 pub mod Labelled
 pub mod MissingSizes

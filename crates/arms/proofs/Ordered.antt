@@ -70,10 +70,9 @@ use Rattle.names.specs.declared.Arm.the-variants.{
   Fbld,
   Fbstp,
 }
-use Rattle.arms.specs.declared.LabelRule.{LabelRule}
 use Rattle.arms.specs.Tests.{isBranch, isXbegin, lslSource}
 use Rattle.arms.specs.Labels.{sizeLabel, lssLabel, tbyteLabel}
-use Rattle.arms.specs.Plans.{plain, labelled, st, named, none, one, two, three, spread, general, never, always, byRegisters, generally, movsLabel, fadd, planOf}
+use Rattle.arms.specs.Plans.{LabelRule, plain, labelled, st, named, none, one, two, three, spread, general, never, always, byRegisters, generally, movsLabel, fadd, planOf}
 use Rattle.arms.specs.Shape.{shapeRefused}
 use Rattle.arms.proofs.ByArm.{first-there, both-there, at-lsl, at-lss, at-invlpgb, at-fadd}
 

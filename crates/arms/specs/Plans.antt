@@ -2,6 +2,7 @@
 -- are refused is said elsewhere: for those the plan here is shown to no one.
 -- Assumes nothing.
 use mathlib.Core.Bool.{Bool, true, false, cond, _&&_}
+use mathlib.Core.List.{[], _∷_}
 use Prim.Native.Nat.{ℕ}
 use lib.Dec.{eqb}
 use Rattle.operands.specs.declared.Operand.{Operand}
@@ -56,7 +57,7 @@ use Rattle.names.specs.declared.Arm.the-variants.{
   Fbld,
   Fbstp,
 }
-use Rattle.arms.specs.declared.LabelRule.{LabelRule}
+use Rattle.names.specs.Among.{isArm, isOneOf}
 use Rattle.arms.specs.Tests.{isBranch, isXbegin, lslSource, hasVector}
 use Rattle.arms.specs.Labels.{sizeLabel, generalLabel, lssLabel, tbyteLabel}
 
@@ -101,7 +102,13 @@ none = one place.Nothing
 unfoldable pub spread : (first later : Label) → Segment → Plan
 spread first later segment = four (labelled first Own 0) (labelled later segment 1) (labelled later segment 2) (labelled later segment 3)
 
--- by the rule for its labels and mem_size
+-- the rule for its labels: whether 8 is `mmword`, and whether 6 is `fword` in operand 0 and in those after it
+pub record LabelRule : Type 0 where
+  pub mmword : Bool
+  pub first : Bool
+  pub later : Bool
+
+-- by that rule and mem_size
 unfoldable pub general : LabelRule → ℕ → Plan
 general rule size =
     spread (generalLabel (rule .mmword) (rule .first) size) (generalLabel (rule .mmword) (rule .later) size) Own
@@ -116,6 +123,12 @@ always = record { mmword = true; first = false; later = false }
 -- the rule of every other: 8 is `mmword` where the record has such a register; where 6 is `fword`, in operand 0 or after it
 abbrev pub byRegisters : Instruction → (first later : Bool) → LabelRule
 byRegisters i first later = record { mmword = hasVector i; first = first; later = later }
+
+-- the same by the arm, as the code asks for it: 6 is `fword` in operand 0 of JMPF and CALLF and after operand 0 of LDS, LES, LFS,
+-- LGS, and ds is not shown after operand 0 of MOVS
+unfoldable pub generalBy : Arm → (mmword : Bool) → ℕ → Plan
+generalBy arm mmword size =
+    spread (generalLabel mmword (isOneOf arm (Jmpf ∷ Callf ∷ [])) size) (generalLabel mmword (isArm arm Lds) size) (cond (isArm arm Movs) UnlessDs Own)
 
 -- the general path of an opcode that it does not name
 abbrev pub generally : Instruction → Plan

@@ -4,10 +4,4 @@ pub mod labels;
 pub mod plans;
 pub mod shapes;
 pub mod sizes;
-
-// The rule for the labels of the general path: whether 8 is `mmword`, and whether 6 is `fword` in operand 0 and in those after it.
-pub struct LabelRule {
-    pub mmword: bool,
-    pub first: bool,
-    pub later: bool,
-}
+mod tests;

@@ -1,11 +1,12 @@
-// The plan of each arm, in document 000's order: the short arms stand in `plan_of`, those that test something have a function.
+// The plan of each arm: the general path stands in the code once, then the other arms in document 000's order.
 ghost use mathlib.Core.Path.{_≡_};
-ghost use mathlib.Core.Bool.{true, false, cond, _&&_};
+ghost use mathlib.Core.Bool.{false, _&&_};
 ghost use lib.Dec.{eqb};
-ghost use Rattle.places.specs.Labels.{labelNumber};
+ghost use Rattle.bodies.specs.Body.{sizeOf};
 ghost use Rattle.bodies.specs.Refusals.{Whole};
-ghost use Rattle.bodies.specs.Decoding.{operandAt, instructionOf};
-ghost use Rattle.arms.specs.Tests.{lslSource, hasVector};
+ghost use Rattle.bodies.specs.Decoding.{instructionOf};
+ghost use Rattle.arms.specs.Size.{generalPath};
+ghost use Rattle.arms.specs.Tests.{mmwordFor};
 ghost use Rattle.arms.specs.Plans.{
   plain as plainPlace,
   st as stPlace,
@@ -14,31 +15,20 @@ ghost use Rattle.arms.specs.Plans.{
   two as twoPlaces,
   one as onePlace,
   none as noPlace,
-  general as generalPlan,
-  never,
-  always,
-  byRegisters,
-  generally as generallyPlan,
+  generalBy,
   planOf,
 };
-use crate::LabelRule;
 use crate::labels::general_label;
 use crate::labels::lss_label;
 use crate::labels::size_label;
 use crate::labels::tbyte_label;
+use crate::tests::has_vector;
+use crate::tests::is_general;
+use crate::tests::lsl_source;
 use bodies::fields;
-use bodies::parts::operand_at;
+use bodies::kinds::is_memory_at;
+use bodies::kinds::is_register_r_at;
 use names::Arm;
-use operands::Operand;
-use operands::kinds::I8;
-use operands::kinds::I32;
-use operands::kinds::is_absent;
-use operands::kinds::is_memory;
-use operands::kinds::is_register;
-use operands::kinds::is_register_r;
-use operands::parts::immediate_kind;
-use operands::parts::is_vector;
-use operands::parts::register_of;
 use places::Place;
 use places::Plan;
 use places::Segment;
@@ -124,148 +114,45 @@ fn spread(first: u8, later: u8, segment: Segment) -> Plan
     }
 }
 
-fn has_vector(body: &[u8]) -> bool
+// Whether 8 is `mmword`. The registers are looked at for that size alone.
+fn is_mmword(arm: Arm, body: &[u8], size: u8) -> bool
     requires { ⌜ Whole (now body) ⌝ }
-    ensures { λ r. ⌜ r ≡ hasVector (instructionOf (now (body .entry))) ⌝ }
+    ensures { λ r. ⌜ r ≡ (eqb size 8 && mmwordFor arm (instructionOf (now (body .entry)))) ⌝ }
 {
-    let a = is_vector(operand_at(body, 0));
-    let b = is_vector(operand_at(body, 1));
-    let c = is_vector(operand_at(body, 2));
-    let d = is_vector(operand_at(body, 3));
-    a | b | c | d
-}
-
-// Whether the size is 8 and such a register is there: the registers are looked at for that size alone.
-fn wants_mmword(body: &[u8], size: u8) -> bool
-    requires { ⌜ Whole (now body) ⌝ }
-    ensures { λ r. ⌜ r ≡ (eqb size 8 && hasVector (instructionOf (now (body .entry)))) ⌝ }
-{
-    if size == 8 { has_vector(body) } else { false }
-}
-
-fn general(rule: LabelRule, size: u8) -> Plan
-    ensures { λ r. ⌜ r ≡ generalPlan rule size ⌝ }
-{
-    let first = general_label(rule.mmword, rule.first, size);
-    let later = general_label(rule.mmword, rule.later, size);
-    spread(first, later, Segment::Shown)
-}
-
-// The general path of an opcode that it names: 8 is always `mmword`, or never.
-fn named_general(mmword: bool, size: u8) -> Plan
-    ensures { λ r. ⌜ r ≡ generalPlan (cond mmword always never) size ⌝ }
-{
-    general(
-        LabelRule {
-            mmword,
-            first: false,
-            later: false,
-        },
-        size,
-    )
-}
-
-// The general path by the record's own registers.
-fn by_registers(body: &[u8], first: bool, later: bool) -> Plan
-    requires { ⌜ Whole (now body) ⌝ }
-    ensures { λ r. ⌜ r ≡ generalPlan (byRegisters (instructionOf (now (body .entry))) first later) (instructionOf (now (body .entry)) .size) ⌝ }
-{
-    let size = fields::size(body);
-    let mmword = wants_mmword(body, size);
-    general(
-        LabelRule {
-            mmword,
-            first,
-            later,
-        },
-        size,
-    )
-}
-
-// The general path of an opcode that it does not name.
-fn generally(body: &[u8]) -> Plan
-    requires { ⌜ Whole (now body) ⌝ }
-    ensures { λ r. ⌜ r ≡ generallyPlan (instructionOf (now (body .entry))) ⌝ }
-{
-    by_registers(body, false, false)
-}
-
-// MOVS: the first operand keeps its segment.
-fn movs(body: &[u8]) -> Plan
-    requires { ⌜ Whole (now body) ⌝ }
-    ensures { λ r. ⌜ r ≡ planOf Arm.Movs (instructionOf (now (body .entry))) ⌝ }
-{
-    let size = fields::size(body);
-    let label = general_label(wants_mmword(body, size), false, size);
-    spread(label, label, Segment::UnlessDs)
-}
-
-fn relative_branch(body: &[u8]) -> Plan
-    requires { ⌜ Whole (now body) ⌝ }
-    ensures { λ r. ⌜ r ≡ planOf Arm.Branch (instructionOf (now (body .entry))) ⌝ }
-{
-    let kind = immediate_kind(operand_at(body, 0));
-    if kind == I8 {
-        one(Place::Branch)
-    } else if kind == I32 {
-        one(Place::Branch)
+    if size == 8 {
+        match arm {
+            Arm::Qword => false,
+            Arm::Mmword => true,
+            _ => has_vector(body),
+        }
     } else {
-        generally(body)
+        false
     }
 }
 
-fn xbegin(body: &[u8]) -> Plan
-    requires { ⌜ Whole (now body) ⌝ }
-    ensures { λ r. ⌜ r ≡ planOf Arm.Xbegin (instructionOf (now (body .entry))) ⌝ }
+// The general path. Most arms have one label for all operands.
+fn general(arm: Arm, mmword: bool, size: u8) -> Plan
+    ensures { λ r. ⌜ r ≡ generalBy arm mmword size ⌝ }
 {
-    if immediate_kind(operand_at(body, 0)) == I32 {
-        one(Place::Branch)
-    } else {
-        generally(body)
-    }
-}
-
-// The source of LSL takes the destination's bank.
-pub fn lsl_source(a: Operand, b: Operand) -> u8
-    ensures { λ r. ⌜ r ≡ lslSource a b ⌝ }
-{
-    8 * (register_of(a) / 8) + register_of(b) % 8
-}
-
-fn lsl(body: &[u8]) -> Plan
-    requires { ⌜ Whole (now body) ⌝ }
-    ensures { λ r. ⌜ r ≡ planOf Arm.Lsl (instructionOf (now (body .entry))) ⌝ }
-{
-    let a = operand_at(body, 0);
-    let b = operand_at(body, 1);
-    if is_register(a) & is_register(b) {
-        two(plain(0), Place::Register(lsl_source(a, b)))
-    } else {
-        generally(body)
-    }
-}
-
-// Two operands or more of NOP are not shown.
-fn nop(body: &[u8]) -> Plan
-    requires { ⌜ Whole (now body) ⌝ }
-    ensures { λ r. ⌜ r ≡ planOf Arm.Nop (instructionOf (now (body .entry))) ⌝ }
-{
-    if is_absent(operand_at(body, 1)) {
-        generally(body)
-    } else {
-        none()
-    }
-}
-
-// The whole immediate is tested, whatever part of it the operand has.
-fn aam(body: &[u8]) -> Plan
-    requires { ⌜ Whole (now body) ⌝ }
-    ensures { λ r. ⌜ r ≡ planOf Arm.Aam (instructionOf (now (body .entry))) ⌝ }
-{
-    if fields::imm(body) == 10 {
-        none()
-    } else {
-        generally(body)
+    match arm {
+        Arm::Jmpf | Arm::Callf => spread(
+            general_label(mmword, true, size),
+            general_label(mmword, false, size),
+            Segment::Shown,
+        ),
+        Arm::Lds => spread(
+            general_label(mmword, false, size),
+            general_label(mmword, true, size),
+            Segment::Shown,
+        ),
+        Arm::Movs => {
+            let label = general_label(mmword, false, size);
+            spread(label, label, Segment::UnlessDs)
+        }
+        _ => {
+            let label = general_label(mmword, false, size);
+            spread(label, label, Segment::Shown)
+        }
     }
 }
 
@@ -273,66 +160,45 @@ fn fadd(body: &[u8]) -> Plan
     requires { ⌜ Whole (now body) ⌝ }
     ensures { λ r. ⌜ r ≡ planOf Arm.Fadd (instructionOf (now (body .entry))) ⌝ }
 {
-    if is_memory(operand_at(body, 1)) {
+    if is_memory_at(body, 1) {
         one(labelled(size_label(fields::size(body)), Segment::Shown, 1))
-    } else if is_register_r(operand_at(body, 0)) {
+    } else if is_register_r_at(body, 0) {
         two(st(0), plain(1))
     } else {
         two(plain(0), st(1))
     }
 }
 
-pub fn plan_of(arm: Arm, body: &[u8]) -> Plan
+// An arm that does not leave its record to the general path; those that are not named show their name alone.
+fn own(arm: Arm, body: &[u8], size: u8) -> Plan
     requires { ⌜ Whole (now body) ⌝ }
+    requires { ⌜ size ≡ sizeOf (now body) ⌝ }
+    requires { ⌜ generalPath arm (instructionOf (now body)) ≡ false ⌝ }
     ensures { λ r. ⌜ r ≡ planOf arm (instructionOf (now (body .entry))) ⌝ }
 {
-    let size = fields::size(body);
     match arm {
-        Arm::General => generally(body),
-        Arm::Qword => named_general(false, size),
-        Arm::Mmword => named_general(true, size),
-        Arm::Jmpf => by_registers(body, true, false),
-        Arm::Callf => by_registers(body, true, false),
-        Arm::Lds => by_registers(body, false, true),
-        Arm::Movs => movs(body),
-        Arm::Cmps => generally(body),
-        Arm::Branch => relative_branch(body),
-        Arm::Xbegin => xbegin(body),
-        Arm::Feni => none(),
-        Arm::Fdisi => none(),
-        Arm::Fsetpm => none(),
+        Arm::Branch | Arm::Xbegin => one(Place::Branch),
         Arm::Hreset => two(plain(0), Place::Register(EAX)),
-        Arm::Lsl => lsl(body),
+        Arm::Lsl => two(plain(0), Place::Register(lsl_source(body))),
         Arm::Prefetch => one(plain(0)),
         Arm::Sgdt => one(labelled(FWORD, Segment::Hidden, 0)),
         Arm::Lss => two(plain(0), labelled(lss_label(size), Segment::Hidden, 1)),
-        Arm::Nop => nop(body),
-        Arm::Monitor => three(
+        Arm::Monitor | Arm::Pvalidate => three(
             Place::Register(EAX),
             Place::Register(ECX),
             Place::Register(EDX),
         ),
         Arm::Mwait => two(Place::Register(EAX), Place::Register(ECX)),
         Arm::Invlpgb => two(plain(0), plain(2)),
-        Arm::Rdpru => none(),
         Arm::Scas => one(labelled(size_label(size), Segment::Shown, 0)),
         Arm::Lods => one(labelled(size_label(size), Segment::Hidden, 1)),
         Arm::Psmash => one(Place::Register(EAX)),
-        Arm::Pvalidate => three(
-            Place::Register(EAX),
-            Place::Register(ECX),
-            Place::Register(EDX),
-        ),
-        Arm::Incssp => generally(body),
-        Arm::Wrss => generally(body),
         Arm::Pblendvb => three(
             plain(0),
             labelled(size_label(size), Segment::Shown, 1),
             Place::Register(XMM0),
         ),
         Arm::Lea => two(plain(0), plain(1)),
-        Arm::Pushf => none(),
-        Arm::Aam => aam(body),
         Arm::Fcom => one(labelled(size_label(size), Segment::Shown, 1)),
         Arm::Fadd => fadd(body),
         Arm::Fbld => one(Place::Operand {
@@ -342,5 +208,18 @@ pub fn plan_of(arm: Arm, body: &[u8]) -> Plan
             short: true,
         }),
         Arm::Fbstp => one(labelled(tbyte_label(size), Segment::Shown, 0)),
+        _ => none(),
+    }
+}
+
+pub fn plan_of(arm: Arm, body: &[u8]) -> Plan
+    requires { ⌜ Whole (now body) ⌝ }
+    ensures { λ r. ⌜ r ≡ planOf arm (instructionOf (now (body .entry))) ⌝ }
+{
+    let size = fields::size(body);
+    if is_general(arm, body) {
+        general(arm, is_mmword(arm, body, size), size)
+    } else {
+        own(arm, body, size)
     }
 }

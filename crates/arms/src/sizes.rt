@@ -5,8 +5,7 @@ ghost use Rattle.bodies.specs.Body.{countOf};
 ghost use Rattle.bodies.specs.Refusals.{Whole};
 ghost use Rattle.bodies.specs.Decoding.{instructionOf};
 ghost use Rattle.arms.specs.Missing.{placeLacks, planLacks};
-use bodies::parts::operand_at;
-use operands::kinds::is_memory;
+use bodies::kinds::is_memory_at;
 use places::Place;
 use places::Plan;
 use places::labels::MISSING;
@@ -28,7 +27,7 @@ fn place_lacks(body: &[u8], place: Place) -> bool
             short: _,
         } => {
             if label == MISSING {
-                is_memory(operand_at(body, k))
+                is_memory_at(body, k)
             } else {
                 false
             }

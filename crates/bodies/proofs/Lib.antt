@@ -4,5 +4,6 @@ pub mod Lengths
 pub mod Signed
 pub mod Operands
 pub mod Accepted
+pub mod ByKind
 pub mod Examples
 pub mod Counted

@@ -17,14 +17,14 @@ ghost use Rattle.lines.specs.Text.{shows, itemsText};
 ghost use Rattle.lines.specs.Code.{shownSegment, frontText, registerText, placeAt, separatorAt};
 use crate::bracket;
 use bodies::fields;
+use bodies::kinds::immediate_at;
+use bodies::kinds::immediate_kind_at;
 use bodies::parts::operand_at;
 use branches::Mode;
 use names::labels;
 use names::registers;
 use operands::Operand;
 use operands::Shown;
-use operands::parts::immediate_kind;
-use operands::parts::immediate_of;
 use places::Place;
 use places::Plan;
 use places::Segment;
@@ -73,11 +73,10 @@ fn put_branch(buf: &mut [u8], at: usize, body: &[u8], mode: Mode) -> usize
     requires { ⌜ Room (now buf) at (shownText (branchOf mode (instructionOf (now body)))) ⌝ }
     ensures { λ r. ⌜ Put (now (buf .entry)) at (shownText (branchOf mode (instructionOf (now (body .entry))))) r (now (buf .exit)) ⌝ }
 {
-    let a = operand_at(body, 0);
     let shown = branches::branch_shown(
         mode,
-        immediate_kind(a),
-        immediate_of(a),
+        immediate_kind_at(body, 0),
+        immediate_at(body, 0),
         fields::length(body),
     );
     if let Shown::Branch { near, minus, size } = shown {

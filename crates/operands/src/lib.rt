@@ -1,7 +1,6 @@
 // What a record says and what a line shows, by value: the types that every crate above shares. An operand is a case; a memory
 // case holds its own base, index and scale. What a line shows never comes from text.
 pub mod kinds;
-pub mod parts;
 
 // A bracket's own registers, scale and displacement. A part that the record's kind does not have is false and 0.
 pub struct Address {

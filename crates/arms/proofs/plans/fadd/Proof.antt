@@ -7,11 +7,8 @@ use borrow.Author.Needs.{needs}
 use Rattle.arms.proofs.plans.fadd.Statement.{statement}
 use Rattle.arms.proofs.plans.fadd.Tie as tie
 
-operand-at-requires : tie.Need-operand-at-requires
-operand-at-requires c κs = search needs
-
-is-memory-requires : tie.Need-is-memory-requires
-is-memory-requires c κs = search needs
+is-memory-at-requires : tie.Need-is-memory-at-requires
+is-memory-at-requires c κs = search needs
 
 size-requires : tie.Need-size-requires
 size-requires c κs = search needs
@@ -25,11 +22,8 @@ labelled-requires c κs = search needs
 one-requires : tie.Need-one-requires
 one-requires c κs = search needs
 
-operand-at-requires-2 : tie.Need-operand-at-requires-2
-operand-at-requires-2 c κs = search needs
-
-is-register-r-requires : tie.Need-is-register-r-requires
-is-register-r-requires c κs = search needs
+is-register-r-at-requires : tie.Need-is-register-r-at-requires
+is-register-r-at-requires c κs = search needs
 
 st-requires : tie.Need-st-requires
 st-requires c κs = search needs
@@ -51,28 +45,26 @@ two-requires-2 c κs = search needs
 
 returns : tie.Need-returns
 unfolding planOf instructionOf
-returns c = rw ((c .one) .ensures, (c .before .labelled) .ensures, (c .before .before .size-label) .ensures, (c .before .before .before .size) .ensures, ← (c .before .before .before .before .before .before .operand-at) .ensures, said ((c .before .before .before .before .before .is-memory) .ensures) ((c .before .before .before .before .if1) .taken))
+returns c = rw ((c .one) .ensures, (c .before .labelled) .ensures, (c .before .before .size-label) .ensures, (c .before .before .before .size) .ensures, said ((c .before .before .before .before .before .is-memory-at) .ensures) ((c .before .before .before .before .if1) .taken))
 
 returns-2 : tie.Need-returns-2
 unfolding planOf instructionOf
-returns-2 c = rw ((c .two) .ensures, (c .before .plain) .ensures, (c .before .before .st) .ensures, ← (c .before .before .before .before .before .before .before .before .operand-at) .ensures, ← (c .before .before .before .before .before .operand-at2) .ensures, said ((c .before .before .before .before .is-register-r) .ensures) ((c .before .before .before .if2) .taken), said ((c .before .before .before .before .before .before .before .is-memory) .ensures) ((c .before .before .before .before .before .before .if1) .left))
+returns-2 c = rw ((c .two) .ensures, (c .before .plain) .ensures, (c .before .before .st) .ensures, said ((c .before .before .before .before .is-register-r-at) .ensures) ((c .before .before .before .if2) .taken), said ((c .before .before .before .before .before .before .is-memory-at) .ensures) ((c .before .before .before .before .before .if1) .left))
 
 returns-3 : tie.Need-returns-3
 unfolding planOf instructionOf
-returns-3 c = rw ((c .two2) .ensures, (c .before .before .plain2) .ensures, (c .before .st2) .ensures, ← (c .before .before .before .before .before .before .before .before .operand-at) .ensures, ← (c .before .before .before .before .before .operand-at2) .ensures, said ((c .before .before .before .before .is-register-r) .ensures) ((c .before .before .before .if2) .left), said ((c .before .before .before .before .before .before .before .is-memory) .ensures) ((c .before .before .before .before .before .before .if1) .left))
+returns-3 c = rw ((c .two2) .ensures, (c .before .before .plain2) .ensures, (c .before .st2) .ensures, said ((c .before .before .before .before .is-register-r-at) .ensures) ((c .before .before .before .if2) .left), said ((c .before .before .before .before .before .before .is-memory-at) .ensures) ((c .before .before .before .before .before .if1) .left))
 
 pub fadd-spec : {M : Type 1} → statement M
 fadd-spec =
     tie.close
     (tie.spec
-    operand-at-requires
-    is-memory-requires
+    is-memory-at-requires
     size-requires
     size-label-requires
     labelled-requires
     one-requires
-    operand-at-requires-2
-    is-register-r-requires
+    is-register-r-at-requires
     st-requires
     plain-requires
     two-requires

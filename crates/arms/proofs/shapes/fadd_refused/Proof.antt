@@ -4,31 +4,19 @@ use borrow.Author.Needs.{needs}
 use Rattle.arms.proofs.shapes.fadd_refused.Statement.{statement}
 use Rattle.arms.proofs.shapes.fadd_refused.Tie as tie
 
-operand-at-requires : tie.Need-operand-at-requires
-operand-at-requires c κs = search needs
+is-memory-at-requires : tie.Need-is-memory-at-requires
+is-memory-at-requires c κs = search needs
 
-operand-at-requires-2 : tie.Need-operand-at-requires-2
-operand-at-requires-2 c κs = search needs
+is-register-r-at-requires : tie.Need-is-register-r-at-requires
+is-register-r-at-requires c κs = search needs
 
-is-memory-requires : tie.Need-is-memory-requires
-is-memory-requires c κs = search needs
-
-is-register-r-requires : tie.Need-is-register-r-requires
-is-register-r-requires c κs = search needs
-
-is-register-r-requires-2 : tie.Need-is-register-r-requires-2
-is-register-r-requires-2 c κs = search needs
+is-register-r-at-requires-2 : tie.Need-is-register-r-at-requires-2
+is-register-r-at-requires-2 c κs = search needs
 
 returns : tie.Need-returns
-returns c = rw ((c .before .before .is-memory) .ensures, (c .before .is-register-r) .ensures, (c .is-register-r2) .ensures, (c .before .before .before .before .operand-at) .ensures, (c .before .before .before .operand-at2) .ensures)
+returns c = rw ((c .before .before .is-memory-at) .ensures, (c .before .is-register-r-at) .ensures, (c .is-register-r-at2) .ensures)
 
 pub fadd-refused-spec : {M : Type 1} → statement M
 fadd-refused-spec =
     tie.close
-    (tie.spec
-    operand-at-requires
-    operand-at-requires-2
-    is-memory-requires
-    is-register-r-requires
-    is-register-r-requires-2
-    returns)
+    (tie.spec is-memory-at-requires is-register-r-at-requires is-register-r-at-requires-2 returns)

@@ -21,8 +21,8 @@ abbrev refusing : List Arm
 refusing =
     Hreset ∷ Lsl ∷ Prefetch ∷ Sgdt ∷ Lss ∷ Invlpgb ∷ Scas ∷ Lods ∷ Incssp ∷ Wrss ∷ Pblendvb ∷ Lea ∷ Fcom ∷ Fadd ∷ Fbld ∷ Fbstp ∷ []
 
-is-past-requires : tie.Need-is-past-requires
-is-past-requires c κs = search needs
+is-absent-at-requires : tie.Need-is-absent-at-requires
+is-absent-at-requires c κs = search needs
 
 enum-told : tie.Need-enum-told
 enum-told c = search needs
@@ -30,80 +30,65 @@ enum-told c = search needs
 lsl-refused-requires : tie.Need-lsl-refused-requires
 lsl-refused-requires c κs = search needs
 
-operand-at-requires : tie.Need-operand-at-requires
-operand-at-requires c κs = search needs
-
-is-memory-requires : tie.Need-is-memory-requires
-is-memory-requires c κs = search needs
+is-memory-at-requires : tie.Need-is-memory-at-requires
+is-memory-at-requires c κs = search needs
 
 enum-told-2 : tie.Need-enum-told-2
 enum-told-2 c = search needs
 
-is-past-requires-2 : tie.Need-is-past-requires-2
-is-past-requires-2 c κs = search needs
+is-absent-at-requires-2 : tie.Need-is-absent-at-requires-2
+is-absent-at-requires-2 c κs = search needs
 
-operand-at-requires-2 : tie.Need-operand-at-requires-2
-operand-at-requires-2 c κs = search needs
-
-is-memory-requires-2 : tie.Need-is-memory-requires-2
-is-memory-requires-2 c κs = search needs
+is-memory-at-requires-2 : tie.Need-is-memory-at-requires-2
+is-memory-at-requires-2 c κs = search needs
 
 enum-told-3 : tie.Need-enum-told-3
 enum-told-3 c = search needs
 
-is-past-requires-3 : tie.Need-is-past-requires-3
-is-past-requires-3 c κs = search needs
+is-absent-at-requires-3 : tie.Need-is-absent-at-requires-3
+is-absent-at-requires-3 c κs = search needs
 
-is-past-requires-4 : tie.Need-is-past-requires-4
-is-past-requires-4 c κs = search needs
+is-absent-at-requires-4 : tie.Need-is-absent-at-requires-4
+is-absent-at-requires-4 c κs = search needs
 
 enum-told-4 : tie.Need-enum-told-4
 enum-told-4 c = search needs
 
-operand-at-requires-3 : tie.Need-operand-at-requires-3
-operand-at-requires-3 c κs = search needs
-
-is-memory-requires-3 : tie.Need-is-memory-requires-3
-is-memory-requires-3 c κs = search needs
+is-memory-at-requires-3 : tie.Need-is-memory-at-requires-3
+is-memory-at-requires-3 c κs = search needs
 
 enum-told-5 : tie.Need-enum-told-5
 enum-told-5 c = search needs
 
-operand-at-requires-4 : tie.Need-operand-at-requires-4
-operand-at-requires-4 c κs = search needs
-
-is-bank-0-requires : tie.Need-is-bank-0-requires
-is-bank-0-requires c κs = search needs
+is-bank-0-at-requires : tie.Need-is-bank-0-at-requires
+is-bank-0-at-requires c κs = search needs
 
 enum-told-6 : tie.Need-enum-told-6
 enum-told-6 c = search needs
 
-operand-at-requires-5 : tie.Need-operand-at-requires-5
-operand-at-requires-5 c κs = search needs
+is-bank-0-at-requires-2 : tie.Need-is-bank-0-at-requires-2
+is-bank-0-at-requires-2 c κs = search needs
 
-is-bank-0-requires-2 : tie.Need-is-bank-0-requires-2
-is-bank-0-requires-2 c κs = search needs
+is-absent-at-requires-5 : tie.Need-is-absent-at-requires-5
+is-absent-at-requires-5 c κs = search needs
 
-is-past-requires-5 : tie.Need-is-past-requires-5
-is-past-requires-5 c κs = search needs
-
-is-past-requires-6 : tie.Need-is-past-requires-6
-is-past-requires-6 c κs = search needs
+is-absent-at-requires-6 : tie.Need-is-absent-at-requires-6
+is-absent-at-requires-6 c κs = search needs
 
 enum-told-7 : tie.Need-enum-told-7
 enum-told-7 c = search needs
 
-is-past-requires-7 : tie.Need-is-past-requires-7
-is-past-requires-7 c κs = search needs
+is-absent-at-requires-7 : tie.Need-is-absent-at-requires-7
+is-absent-at-requires-7 c κs = search needs
 
 enum-told-8 : tie.Need-enum-told-8
 enum-told-8 c = search needs
 
-is-past-requires-8 : tie.Need-is-past-requires-8
-is-past-requires-8 c κs = search needs
+is-absent-at-requires-8 : tie.Need-is-absent-at-requires-8
+is-absent-at-requires-8 c κs = search needs
 
-is-past-requires-9 : tie.Need-is-past-requires-9
-is-past-requires-9 c κs = search needs
+is-absent-at-requires-9 : tie.Need-is-absent-at-requires-9
+is-absent-at-requires-9 c κs = search needs
 
 fadd-refused-requires : tie.Need-fadd-refused-requires
 fadd-refused-requires c κs = search needs
@@ -117,7 +102,7 @@ fbld-refused-requires c κs = search needs
 returns : tie.Need-returns
 unfolding instructionOf
 returns c = let i = instructionOf (now ((c .before .before .before .args) .body)) in
-    rw ((c .is-past) .ensures, at-group (λ (x : Arm). shapeRefused x i) (isAbsent (i .a)) (Hreset ∷ Prefetch ∷ Fbstp ∷ []) ((c .before .before .before .args) .arm) (first-there i) ((c .before .match) .keys1))
+    rw ((c .is-absent-at) .ensures, at-group (λ (x : Arm). shapeRefused x i) (isAbsent (i .a)) (Hreset ∷ Prefetch ∷ Fbstp ∷ []) ((c .before .before .before .args) .arm) (first-there i) ((c .before .match) .keys1))
 
 returns-2 : tie.Need-returns-2
 unfolding instructionOf
@@ -125,41 +110,41 @@ returns-2 c = rw ((c .lsl-refused) .ensures, (c .before .enum-told) .given .1, a
 
 returns-3 : tie.Need-returns-3
 unfolding instructionOf
-returns-3 c = let i = instructionOf (now ((c .before .before .before .before .args) .body)) in
-    rw ((c .is-memory) .ensures, (c .before .operand-at) .ensures, at-group (λ (x : Arm). shapeRefused x i) (not (isMemory (i .a))) (Sgdt ∷ Scas ∷ []) ((c .before .before .before .before .args) .arm) (first-memory i) ((c .before .before .match) .keys3))
+returns-3 c = let i = instructionOf (now ((c .before .before .before .args) .body)) in
+    rw ((c .is-memory-at) .ensures, at-group (λ (x : Arm). shapeRefused x i) (not (isMemory (i .a))) (Sgdt ∷ Scas ∷ []) ((c .before .before .before .args) .arm) (first-memory i) ((c .before .match) .keys3))
 
 returns-4 : tie.Need-returns-4
 unfolding instructionOf
-returns-4 c = rw ((c .before .before .is-past2) .ensures, (c .is-memory2) .ensures, (c .before .operand-at2) .ensures, (c .before .before .before .enum-told2) .given .1, at-lss)
+returns-4 c = rw ((c .before .is-absent-at2) .ensures, (c .is-memory-at2) .ensures, (c .before .before .enum-told2) .given .1, at-lss)
 
 returns-5 : tie.Need-returns-5
 unfolding instructionOf
-returns-5 c = rw ((c .before .is-past3) .ensures, (c .is-past4) .ensures, (c .before .before .enum-told3) .given .1, at-invlpgb)
+returns-5 c = rw ((c .before .is-absent-at3) .ensures, (c .is-absent-at4) .ensures, (c .before .before .enum-told3) .given .1, at-invlpgb)
 
 returns-6 : tie.Need-returns-6
 unfolding instructionOf
-returns-6 c = rw ((c .is-memory3) .ensures, (c .before .operand-at3) .ensures, (c .before .before .enum-told4) .given .1, at-lods)
+returns-6 c = rw ((c .is-memory-at3) .ensures, (c .before .enum-told4) .given .1, at-lods)
 
 returns-7 : tie.Need-returns-7
 unfolding instructionOf
-returns-7 c = rw ((c .is-bank-0) .ensures, (c .before .operand-at4) .ensures, (c .before .before .enum-told5) .given .1, at-incssp)
+returns-7 c = rw ((c .is-bank-0-at) .ensures, (c .before .enum-told5) .given .1, at-incssp)
 
 returns-8 : tie.Need-returns-8
 unfolding instructionOf
-returns-8 c = rw ((c .is-bank-02) .ensures, (c .before .operand-at5) .ensures, (c .before .before .enum-told6) .given .1, at-wrss)
+returns-8 c = rw ((c .is-bank-0-at2) .ensures, (c .before .enum-told6) .given .1, at-wrss)
 
 returns-9 : tie.Need-returns-9
 unfolding instructionOf
 returns-9 c = let i = instructionOf (now ((c .before .before .before .before .args) .body)) in
-    rw ((c .before .is-past5) .ensures, (c .is-past6) .ensures, at-group (λ (x : Arm). shapeRefused x i) (isAbsent (i .a) || isAbsent (i .b)) (Pblendvb ∷ Lea ∷ []) ((c .before .before .before .before .args) .arm) (both-there i) ((c .before .before .match) .keys9))
+    rw ((c .before .is-absent-at5) .ensures, (c .is-absent-at6) .ensures, at-group (λ (x : Arm). shapeRefused x i) (isAbsent (i .a) || isAbsent (i .b)) (Pblendvb ∷ Lea ∷ []) ((c .before .before .before .before .args) .arm) (both-there i) ((c .before .before .match) .keys9))
 
 returns-10 : tie.Need-returns-10
 unfolding instructionOf
-returns-10 c = rw ((c .is-past7) .ensures, (c .before .enum-told7) .given .1, at-fcom)
+returns-10 c = rw ((c .is-absent-at7) .ensures, (c .before .enum-told7) .given .1, at-fcom)
 
 returns-11 : tie.Need-returns-11
 unfolding instructionOf
-returns-11 c = rw ((c .before .before .is-past8) .ensures, (c .before .is-past9) .ensures, (c .fadd-refused) .ensures, (c .before .before .before .enum-told8) .given .1, at-fadd)
+returns-11 c = rw ((c .before .before .is-absent-at8) .ensures, (c .before .is-absent-at9) .ensures, (c .fadd-refused) .ensures, (c .before .before .before .enum-told8) .given .1, at-fadd)
 
 returns-12 : tie.Need-returns-12
 unfolding instructionOf
@@ -173,34 +158,29 @@ pub shape-refused-spec : {M : Type 1} → statement M
 shape-refused-spec =
     tie.close
     (tie.spec
-    is-past-requires
+    is-absent-at-requires
     enum-told
     lsl-refused-requires
-    operand-at-requires
-    is-memory-requires
+    is-memory-at-requires
     enum-told-2
-    is-past-requires-2
-    operand-at-requires-2
-    is-memory-requires-2
+    is-absent-at-requires-2
+    is-memory-at-requires-2
     enum-told-3
-    is-past-requires-3
-    is-past-requires-4
+    is-absent-at-requires-3
+    is-absent-at-requires-4
     enum-told-4
-    operand-at-requires-3
-    is-memory-requires-3
+    is-memory-at-requires-3
     enum-told-5
-    operand-at-requires-4
-    is-bank-0-requires
+    is-bank-0-at-requires
     enum-told-6
-    operand-at-requires-5
-    is-bank-0-requires-2
-    is-past-requires-5
-    is-past-requires-6
+    is-bank-0-at-requires-2
+    is-absent-at-requires-5
+    is-absent-at-requires-6
     enum-told-7
-    is-past-requires-7
+    is-absent-at-requires-7
     enum-told-8
-    is-past-requires-8
-    is-past-requires-9
+    is-absent-at-requires-8
+    is-absent-at-requires-9
     fadd-refused-requires
     enum-told-9
     fbld-refused-requires

@@ -18,11 +18,8 @@ enum-told-3 c = search needs
 enum-known-place : tie.Need-enum-known-place
 enum-known-place c = search needs
 
-operand-at-requires : tie.Need-operand-at-requires
-operand-at-requires c κs = search needs
-
-is-memory-requires : tie.Need-is-memory-requires
-is-memory-requires c κs = search needs
+is-memory-at-requires : tie.Need-is-memory-at-requires
+is-memory-at-requires c κs = search needs
 
 returns : tie.Need-returns
 returns c = search needs
@@ -34,7 +31,7 @@ returns-3 : tie.Need-returns-3
 returns-3 c = search needs
 
 returns-4 : tie.Need-returns-4
-returns-4 c = rw ((c .is-memory) .ensures, (c .before .operand-at) .ensures, operand-in _ (c .before .before .before .before .before .before .before .pre .1) _, (c .before .before .before .before .place) .given .1, eq-eqb _ _ ((c .before .before .if1) .taken))
+returns-4 c = rw ((c .is-memory-at) .ensures, operand-in _ ((c .before .before .before .before .before .before .pre) .1) _, (c .before .before .before .place) .given .1, eq-eqb _ _ ((c .before .if1) .taken))
 
 returns-5 : tie.Need-returns-5
 returns-5 c = rw ((c .before .before .place) .given .1, ne-eqb _ _ ((c .if1) .left))
@@ -47,8 +44,7 @@ place-lacks-spec =
     enum-told-2
     enum-told-3
     enum-known-place
-    operand-at-requires
-    is-memory-requires
+    is-memory-at-requires
     returns
     returns-2
     returns-3

@@ -1,7 +1,7 @@
 -- `lines::place::put_branch` meets its contract: what is shown is the branch of operand 0, and nothing else is.
 -- Assumes nothing.
+use mathlib.Core.Path.{refl, sym, ap, _∙_}
 use denote.Ref.{now}
-use mathlib.Core.Path.{sym, ap, _∙_}
 use Rattle.text.proofs.Putting.{room-as, put-as}
 use Rattle.bodies.specs.Decoding.{instructionOf}
 use Rattle.lines.specs.Items.{shownText}
@@ -10,14 +10,11 @@ use borrow.Author.Needs.{needs}
 use Rattle.lines.proofs.place.put_branch.Statement.{statement}
 use Rattle.lines.proofs.place.put_branch.Tie as tie
 
-operand-at-requires : tie.Need-operand-at-requires
-operand-at-requires c κs = search needs
+immediate-kind-at-requires : tie.Need-immediate-kind-at-requires
+immediate-kind-at-requires c κs = search needs
 
-immediate-kind-requires : tie.Need-immediate-kind-requires
-immediate-kind-requires c κs = search needs
-
-immediate-of-requires : tie.Need-immediate-of-requires
-immediate-of-requires c κs = search needs
+immediate-at-requires : tie.Need-immediate-at-requires
+immediate-at-requires c κs = search needs
 
 length-requires : tie.Need-length-requires
 length-requires c κs = search needs
@@ -29,24 +26,23 @@ enum-known-shown : tie.Need-enum-known-shown
 enum-known-shown c = search needs
 
 put-sum-requires : tie.Need-put-sum-requires
-put-sum-requires c κs = room-as (ap shownText (branch-is ((c .before .before .before .before .before .before .before .before .before .before .before .args) .mode) (now ((c .before .before .before .before .before .before .before .before .before .before .before .args) .body)) ((c .before .before .before .before .before .before .before .before .operand-at) .ensures) ((c .before .before .before .before .before .before .before .immediate-kind) .ensures) ((c .before .before .before .before .before .before .immediate-of) .ensures) ((c .before .before .before .before .before .length) .ensures) ((c .before .before .before .before .branch-shown) .ensures)) ∙ text-branch ((c .before .before .shown) .given .1)) ((c .before .before .before .before .before .before .before .before .before .before .before .pre) .1)
+put-sum-requires c κs = room-as (ap shownText (branch-is ((c .before .before .before .before .before .before .before .before .before .before .args) .mode) (now ((c .before .before .before .before .before .before .before .before .before .before .args) .body)) refl ((c .before .before .before .before .before .before .before .immediate-kind-at) .ensures) ((c .before .before .before .before .before .before .immediate-at) .ensures) ((c .before .before .before .before .before .length) .ensures) ((c .before .before .before .before .branch-shown) .ensures)) ∙ text-branch ((c .before .before .shown) .given .1)) ((c .before .before .before .before .before .before .before .before .before .before .pre) .1)
 
 same-length : tie.Need-same-length
 same-length c = search needs
 
 returns : tie.Need-returns
-returns c = put-as (sym (ap shownText (branch-is ((c .before .before .before .before .before .before .before .before .before .before .before .before .before .before .args) .mode) (now ((c .before .before .before .before .before .before .before .before .before .before .before .before .before .before .args) .body)) ((c .before .before .before .before .before .before .before .before .before .before .before .operand-at) .ensures) ((c .before .before .before .before .before .before .before .before .before .before .immediate-kind) .ensures) ((c .before .before .before .before .before .before .before .before .before .immediate-of) .ensures) ((c .before .before .before .before .before .before .before .before .length) .ensures) ((c .before .before .before .before .before .before .before .branch-shown) .ensures)) ∙ text-branch ((c .before .before .before .before .before .shown) .given .1))) ((c .before .before .put-sum) .ensures)
+returns c = put-as (sym (ap shownText (branch-is ((c .before .before .before .before .before .before .before .before .before .before .before .before .before .args) .mode) (now ((c .before .before .before .before .before .before .before .before .before .before .before .before .before .args) .body)) refl ((c .before .before .before .before .before .before .before .before .before .before .immediate-kind-at) .ensures) ((c .before .before .before .before .before .before .before .before .before .immediate-at) .ensures) ((c .before .before .before .before .before .before .before .before .length) .ensures) ((c .before .before .before .before .before .before .before .branch-shown) .ensures)) ∙ text-branch ((c .before .before .before .before .before .shown) .given .1))) ((c .before .before .put-sum) .ensures)
 
 returns-2 : tie.Need-returns-2
-returns-2 c = absurd (branch-tag ((c .before .before .before .before .before .before .before .before .args) .mode) (instructionOf (now ((c .before .before .before .before .before .before .before .before .args) .body))) (branch-is ((c .before .before .before .before .before .before .before .before .args) .mode) (now ((c .before .before .before .before .before .before .before .before .args) .body)) ((c .before .before .before .before .before .operand-at) .ensures) ((c .before .before .before .before .immediate-kind) .ensures) ((c .before .before .before .immediate-of) .ensures) ((c .before .before .length) .ensures) ((c .before .branch-shown) .ensures)) ((c .match) .keys2))
+returns-2 c = absurd (branch-tag ((c .before .before .before .before .before .before .before .args) .mode) (instructionOf (now ((c .before .before .before .before .before .before .before .args) .body))) (branch-is ((c .before .before .before .before .before .before .before .args) .mode) (now ((c .before .before .before .before .before .before .before .args) .body)) refl ((c .before .before .before .before .immediate-kind-at) .ensures) ((c .before .before .before .immediate-at) .ensures) ((c .before .before .length) .ensures) ((c .before .branch-shown) .ensures)) ((c .match) .keys2))
 
 pub put-branch-spec : {M : Type 1} → statement M
 put-branch-spec =
     tie.close
     (tie.spec
-    operand-at-requires
-    immediate-kind-requires
-    immediate-of-requires
+    immediate-kind-at-requires
+    immediate-at-requires
     length-requires
     branch-shown-requires
     enum-known-shown

@@ -1,0 +1,242 @@
+-- The general path: which records take it, the plan that it makes of them, and the plan of an arm that keeps its record.
+-- Assumes nothing.
+use mathlib.Core.Path.{_≡_, refl, sym, ap, _∙_}
+use mathlib.Core.Bool.{Bool, true, false, cond, not, _&&_, or-false}
+use mathlib.Core.List.{List, [], _∷_, _++_, map}
+use Prim.Native.Nat.{ℕ}
+use lib.Dec.{eqb}
+use types.Run.{OneOf}
+use Rattle.operands.specs.Kinds.{isAbsent, isRegister}
+use Rattle.operands.specs.RegisterBytes.{eax, ecx, edx}
+use Rattle.operands.specs.declared.Instruction.{Instruction}
+use Rattle.places.specs.declared.Segment.the-variants.{Shown as Own}
+use Rattle.places.specs.declared.Place.the-variants as place
+use Rattle.places.specs.declared.Plan.{Plan}
+use Rattle.names.specs.declared.Arm.{Arm}
+use Rattle.names.specs.declared.Arm.the-variants.{
+  General,
+  Qword,
+  Mmword,
+  Jmpf,
+  Callf,
+  Lds,
+  Movs,
+  Cmps,
+  Branch,
+  Xbegin,
+  Feni,
+  Fdisi,
+  Fsetpm,
+  Hreset,
+  Lsl,
+  Prefetch,
+  Sgdt,
+  Lss,
+  Nop,
+  Monitor,
+  Mwait,
+  Invlpgb,
+  Rdpru,
+  Scas,
+  Lods,
+  Psmash,
+  Pvalidate,
+  Incssp,
+  Wrss,
+  Pblendvb,
+  Lea,
+  Pushf,
+  Aam,
+  Fcom,
+  Fadd,
+  Fbld,
+  Fbstp,
+}
+use Rattle.names.specs.Among.{isArm, isOneOf}
+use Rattle.arms.specs.Tests.{isBranch, isXbegin, lslSource, mmwordFor}
+use Rattle.arms.specs.Labels.{generalLabel}
+use Rattle.arms.specs.Plans.{plain, named, none, one, two, three, spread, general, generalBy, generally, planOf}
+use Rattle.arms.specs.Size.{generalPath}
+use Rattle.arms.proofs.Groups.{tag, at-group, of-group, Each}
+
+-- an arm that leaves its record to the general path where the test fails, or where it holds
+left : {X : Type 0} (p : Bool) (x y : X) → not p ≡ true → cond p x y ≡ y
+left true x y e = cc
+left false x y e = refl
+
+taken : {X : Type 0} (p : Bool) (x y : X) → p ≡ true → cond p x y ≡ x
+taken true x y e = refl
+taken false x y e = cc
+
+-- an arm that keeps its record where the test holds, and tests that decide between a plan and the same plan
+held : {X : Type 0} (p : Bool) (x y : X) → not p ≡ false → cond p x y ≡ x
+held true x y e = refl
+held false x y e = cc
+
+same-if-held : {X : Type 0} (p : Bool) (x y : X) → cond (not p) x (cond p x y) ≡ x
+same-if-held true x y = refl
+same-if-held false x y = refl
+
+same-if-left : {X : Type 0} (p : Bool) (x y : X) → cond p x (cond p y x) ≡ x
+same-if-left true x y = refl
+same-if-left false x y = refl
+
+-- the arms with one label for all operands and their own segments, wherever they are left to the general path
+abbrev pub alike : List Arm
+alike =
+    General ∷ Qword ∷ Mmword ∷ Cmps ∷ Branch ∷ Xbegin ∷ Feni ∷ Fdisi ∷ Fsetpm ∷ Hreset ∷ Lsl ∷ Prefetch ∷ Sgdt ∷ Lss ∷ Nop ∷
+    Monitor ∷ Mwait ∷ Invlpgb ∷ Rdpru ∷ Scas ∷ Lods ∷ Psmash ∷ Pvalidate ∷ Incssp ∷ Wrss ∷ Pblendvb ∷ Lea ∷ Pushf ∷ Aam ∷
+    Fcom ∷ Fadd ∷ Fbld ∷ Fbstp ∷ []
+
+-- the plan of the general path by the arms that the code tells apart
+module _ (arm : Arm) (mmword : Bool) (size : ℕ) where
+  general-as :
+      (first later : Bool) →
+      isOneOf arm (Jmpf ∷ Callf ∷ []) ≡ first →
+      isArm arm Lds ≡ later →
+      isArm arm Movs ≡ false →
+      generalBy arm mmword size ≡ spread (generalLabel mmword first size) (generalLabel mmword later size) Own
+  unfolding generalBy
+  general-as first later e f g = rw (e, f, g)
+
+  pub general-far : OneOf (map tag (Jmpf ∷ Callf ∷ [])) (tag arm) → generalBy arm mmword size ≡ spread (generalLabel mmword true size) (generalLabel mmword false size) Own
+  general-far o =
+      let far = Jmpf ∷ Callf ∷ [] in
+      general-as true false (of-group (λ (x : Arm). isOneOf x (Jmpf ∷ Callf ∷ [])) true far arm tt o) (of-group (λ (x : Arm). isArm x Lds) false far arm tt o)
+      (of-group (λ (x : Arm). isArm x Movs) false far arm tt o)
+
+  pub general-alike : OneOf (map tag alike) (tag arm) → generalBy arm mmword size ≡ spread (generalLabel mmword false size) (generalLabel mmword false size) Own
+  general-alike o =
+      general-as false false (of-group (λ (x : Arm). isOneOf x (Jmpf ∷ Callf ∷ [])) false alike arm tt o)
+      (of-group (λ (x : Arm). isArm x Lds) false alike arm tt o)
+      (of-group (λ (x : Arm). isArm x Movs) false alike arm tt o)
+
+-- the arms that show their name alone of a record that they keep, if they keep any: in the order of the declaration, in three parts
+abbrev silentFirst : List Arm
+silentFirst = General ∷ Qword ∷ Mmword ∷ Jmpf ∷ Callf ∷ Lds ∷ Movs ∷ Cmps ∷ []
+
+abbrev silentNext : List Arm
+silentNext = Feni ∷ Fdisi ∷ Fsetpm ∷ Nop ∷ []
+
+abbrev silentLast : List Arm
+silentLast = Rdpru ∷ Incssp ∷ Wrss ∷ Pushf ∷ Aam ∷ []
+
+abbrev pub silent : List Arm
+silent = silentFirst ++ (silentNext ++ silentLast)
+
+module _ (i : Instruction) where
+  -- ---- Which records take it
+
+  pub path-of-branch : generalPath Branch i ≡ not (isBranch (i .a))
+  path-of-branch = simp or-false
+
+  pub path-of-xbegin : generalPath Xbegin i ≡ not (isXbegin (i .a))
+  path-of-xbegin = simp or-false
+
+  pub path-of-lsl : generalPath Lsl i ≡ not (isRegister (i .a) && isRegister (i .b))
+  path-of-lsl = simp or-false
+
+  pub path-of-nop : generalPath Nop i ≡ isAbsent (i .b)
+  path-of-nop = simp or-false
+
+  pub path-of-aam : generalPath Aam i ≡ not (eqb (i .imm) 10)
+  path-of-aam = refl
+
+  -- ---- The plan that it makes
+
+  pub general-plan : (arm : Arm) → generalPath arm i ≡ true → planOf arm i ≡ generalBy arm (mmwordFor arm i) (i .size)
+  unfolding planOf general generalBy
+  general-plan General e = refl
+  general-plan Qword e = refl
+  general-plan Mmword e = refl
+  general-plan Jmpf e = refl
+  general-plan Callf e = refl
+  general-plan Lds e = refl
+  general-plan Movs e = refl
+  general-plan Cmps e = refl
+  general-plan Branch e = left (isBranch (i .a)) (one place.Branch) (generally i) (sym path-of-branch ∙ e)
+  general-plan Xbegin e = left (isXbegin (i .a)) (one place.Branch) (generally i) (sym path-of-xbegin ∙ e)
+  general-plan Feni e = cc
+  general-plan Fdisi e = cc
+  general-plan Fsetpm e = cc
+  general-plan Hreset e = cc
+  general-plan Lsl e = left (isRegister (i .a) && isRegister (i .b)) (two (plain 0) (named (lslSource (i .a) (i .b)))) (generally i) (sym path-of-lsl ∙ e)
+  general-plan Prefetch e = cc
+  general-plan Sgdt e = cc
+  general-plan Lss e = cc
+  general-plan Nop e = taken (isAbsent (i .b)) (generally i) none (sym path-of-nop ∙ e)
+  general-plan Monitor e = cc
+  general-plan Mwait e = cc
+  general-plan Invlpgb e = cc
+  general-plan Rdpru e = cc
+  general-plan Scas e = cc
+  general-plan Lods e = cc
+  general-plan Psmash e = cc
+  general-plan Pvalidate e = cc
+  general-plan Incssp e = refl
+  general-plan Wrss e = refl
+  general-plan Pblendvb e = cc
+  general-plan Lea e = cc
+  general-plan Pushf e = cc
+  general-plan Aam e = left (eqb (i .imm) 10) none (generally i) (sym path-of-aam ∙ e)
+  general-plan Fcom e = cc
+  general-plan Fadd e = cc
+  general-plan Fbld e = cc
+  general-plan Fbstp e = cc
+
+  -- ---- The plan of an arm that keeps its record
+
+  abbrev pub KeptAs : Plan → Arm → Type 0
+  KeptAs v arm = cond (generalPath arm i) v (planOf arm i) ≡ v
+
+  pub kept-plan : (v : Plan) (xs : List Arm) (arm : Arm) → Each (KeptAs v) xs → OneOf (map tag xs) (tag arm) → generalPath arm i ≡ false → planOf arm i ≡ v
+  kept-plan v xs arm all keys e =
+      ap (λ (t : Bool). cond t v (planOf arm i)) (sym e) ∙ at-group (λ (x : Arm). cond (generalPath x i) v (planOf x i)) v xs arm all keys
+
+  keeps : (v : Plan) (arm : Arm) (t : Bool) → generalPath arm i ≡ t → cond t v (planOf arm i) ≡ v → KeptAs v arm
+  keeps v arm t e k = ap (λ (u : Bool). cond u v (planOf arm i)) e ∙ k
+
+  pub kept-branch : Each (KeptAs (one place.Branch)) (Branch ∷ Xbegin ∷ [])
+  unfolding planOf
+  kept-branch = (
+    keeps (one place.Branch) Branch (not (isBranch (i .a))) path-of-branch (same-if-held (isBranch (i .a)) (one place.Branch) (generally i)),
+    (keeps (one place.Branch) Xbegin (not (isXbegin (i .a))) path-of-xbegin (same-if-held (isXbegin (i .a)) (one place.Branch) (generally i)), tt),
+  )
+
+  pub kept-lsl : (arm : Arm) → arm ≡ Lsl → generalPath arm i ≡ false → planOf arm i ≡ two (plain 0) (named (lslSource (i .a) (i .b)))
+  unfolding planOf
+  kept-lsl arm is e =
+      ap (λ (x : Arm). planOf x i) is
+      ∙ held (isRegister (i .a) && isRegister (i .b)) (two (plain 0) (named (lslSource (i .a) (i .b)))) (generally i) (sym path-of-lsl ∙ (ap (λ (x : Arm). generalPath x i) (sym is) ∙ e))
+
+  pub kept-monitor : Each (λ (x : Arm). planOf x i ≡ three (named eax) (named ecx) (named edx)) (Monitor ∷ Pvalidate ∷ [])
+  unfolding planOf
+  kept-monitor = (refl, (refl, tt))
+
+  kept-nop : KeptAs none Nop
+  unfolding planOf
+  kept-nop = keeps none Nop (isAbsent (i .b)) path-of-nop (same-if-left (isAbsent (i .b)) none (generally i))
+
+  kept-aam : KeptAs none Aam
+  unfolding planOf
+  kept-aam = keeps none Aam (not (eqb (i .imm) 10)) path-of-aam (same-if-held (eqb (i .imm) 10) none (generally i))
+
+  kept-first : Each (KeptAs none) silentFirst
+  unfolding planOf
+  kept-first = (refl, (refl, (refl, (refl, (refl, (refl, (refl, (refl, tt))))))))
+
+  kept-next : Each (KeptAs none) silentNext
+  unfolding planOf
+  kept-next = (refl, (refl, (refl, (kept-nop, tt))))
+
+  kept-last : Each (KeptAs none) silentLast
+  unfolding planOf
+  kept-last = (refl, (refl, (refl, (refl, (kept-aam, tt)))))
+
+  all-of : (xs ys : List Arm) → Each (KeptAs none) xs → Each (KeptAs none) ys → Each (KeptAs none) (xs ++ ys)
+  all-of [] ys a b = b
+  all-of (x ∷ xs) ys a b = (a .0, all-of xs ys (a .1) b)
+
+  pub kept-name : (arm : Arm) → OneOf (map tag silent) (tag arm) → generalPath arm i ≡ false → planOf arm i ≡ none
+  kept-name arm =
+      kept-plan none silent arm (all-of silentFirst (silentNext ++ silentLast) kept-first (all-of silentNext silentLast kept-next kept-last))

@@ -1,0 +1,352 @@
+-- `arms::plans::own` meets its contract: at each return the arm is known, and at the last it is one that shows its name alone.
+-- Assumes nothing.
+use mathlib.Core.List.{[], _∷_}
+use denote.Ref.{now}
+use Rattle.operands.specs.RegisterBytes.{eax, ecx, edx}
+use Rattle.places.specs.declared.Place.the-variants as place
+use Rattle.names.specs.declared.Arm.{Arm}
+use Rattle.names.specs.declared.Arm.the-variants.{Branch, Xbegin, Monitor, Pvalidate}
+use Rattle.bodies.specs.Decoding.{instructionOf}
+use Rattle.arms.specs.Plans.{named, one, three, planOf}
+use Rattle.arms.proofs.Groups.{at-group}
+use Rattle.arms.proofs.GeneralPath.{kept-plan, kept-branch, kept-lsl, kept-monitor, kept-name}
+use borrow.Author.Needs.{needs}
+use Rattle.arms.proofs.plans.own.Statement.{statement}
+use Rattle.arms.proofs.plans.own.Tie as tie
+
+one-requires : tie.Need-one-requires
+one-requires c κs = search needs
+
+enum-told : tie.Need-enum-told
+enum-told c = search needs
+
+plain-requires : tie.Need-plain-requires
+plain-requires c κs = search needs
+
+two-requires : tie.Need-two-requires
+two-requires c κs = search needs
+
+enum-told-2 : tie.Need-enum-told-2
+enum-told-2 c = search needs
+
+plain-requires-2 : tie.Need-plain-requires-2
+plain-requires-2 c κs = search needs
+
+lsl-source-requires : tie.Need-lsl-source-requires
+lsl-source-requires c κs = search needs
+
+two-requires-2 : tie.Need-two-requires-2
+two-requires-2 c κs = search needs
+
+enum-told-3 : tie.Need-enum-told-3
+enum-told-3 c = search needs
+
+plain-requires-3 : tie.Need-plain-requires-3
+plain-requires-3 c κs = search needs
+
+one-requires-2 : tie.Need-one-requires-2
+one-requires-2 c κs = search needs
+
+enum-told-4 : tie.Need-enum-told-4
+enum-told-4 c = search needs
+
+labelled-requires : tie.Need-labelled-requires
+labelled-requires c κs = search needs
+
+one-requires-3 : tie.Need-one-requires-3
+one-requires-3 c κs = search needs
+
+enum-told-5 : tie.Need-enum-told-5
+enum-told-5 c = search needs
+
+plain-requires-4 : tie.Need-plain-requires-4
+plain-requires-4 c κs = search needs
+
+lss-label-requires : tie.Need-lss-label-requires
+lss-label-requires c κs = search needs
+
+labelled-requires-2 : tie.Need-labelled-requires-2
+labelled-requires-2 c κs = search needs
+
+two-requires-3 : tie.Need-two-requires-3
+two-requires-3 c κs = search needs
+
+three-requires : tie.Need-three-requires
+three-requires c κs = search needs
+
+enum-told-6 : tie.Need-enum-told-6
+enum-told-6 c = search needs
+
+two-requires-4 : tie.Need-two-requires-4
+two-requires-4 c κs = search needs
+
+enum-told-7 : tie.Need-enum-told-7
+enum-told-7 c = search needs
+
+plain-requires-5 : tie.Need-plain-requires-5
+plain-requires-5 c κs = search needs
+
+plain-requires-6 : tie.Need-plain-requires-6
+plain-requires-6 c κs = search needs
+
+two-requires-5 : tie.Need-two-requires-5
+two-requires-5 c κs = search needs
+
+enum-told-8 : tie.Need-enum-told-8
+enum-told-8 c = search needs
+
+size-label-requires : tie.Need-size-label-requires
+size-label-requires c κs = search needs
+
+labelled-requires-3 : tie.Need-labelled-requires-3
+labelled-requires-3 c κs = search needs
+
+one-requires-4 : tie.Need-one-requires-4
+one-requires-4 c κs = search needs
+
+enum-told-9 : tie.Need-enum-told-9
+enum-told-9 c = search needs
+
+size-label-requires-2 : tie.Need-size-label-requires-2
+size-label-requires-2 c κs = search needs
+
+labelled-requires-4 : tie.Need-labelled-requires-4
+labelled-requires-4 c κs = search needs
+
+one-requires-5 : tie.Need-one-requires-5
+one-requires-5 c κs = search needs
+
+enum-told-10 : tie.Need-enum-told-10
+enum-told-10 c = search needs
+
+one-requires-6 : tie.Need-one-requires-6
+one-requires-6 c κs = search needs
+
+enum-told-11 : tie.Need-enum-told-11
+enum-told-11 c = search needs
+
+plain-requires-7 : tie.Need-plain-requires-7
+plain-requires-7 c κs = search needs
+
+size-label-requires-3 : tie.Need-size-label-requires-3
+size-label-requires-3 c κs = search needs
+
+labelled-requires-5 : tie.Need-labelled-requires-5
+labelled-requires-5 c κs = search needs
+
+three-requires-2 : tie.Need-three-requires-2
+three-requires-2 c κs = search needs
+
+enum-told-12 : tie.Need-enum-told-12
+enum-told-12 c = search needs
+
+plain-requires-8 : tie.Need-plain-requires-8
+plain-requires-8 c κs = search needs
+
+plain-requires-9 : tie.Need-plain-requires-9
+plain-requires-9 c κs = search needs
+
+two-requires-6 : tie.Need-two-requires-6
+two-requires-6 c κs = search needs
+
+enum-told-13 : tie.Need-enum-told-13
+enum-told-13 c = search needs
+
+size-label-requires-4 : tie.Need-size-label-requires-4
+size-label-requires-4 c κs = search needs
+
+labelled-requires-6 : tie.Need-labelled-requires-6
+labelled-requires-6 c κs = search needs
+
+one-requires-7 : tie.Need-one-requires-7
+one-requires-7 c κs = search needs
+
+enum-told-14 : tie.Need-enum-told-14
+enum-told-14 c = search needs
+
+fadd-requires : tie.Need-fadd-requires
+fadd-requires c κs = search needs
+
+enum-told-15 : tie.Need-enum-told-15
+enum-told-15 c = search needs
+
+tbyte-label-requires : tie.Need-tbyte-label-requires
+tbyte-label-requires c κs = search needs
+
+one-requires-8 : tie.Need-one-requires-8
+one-requires-8 c κs = search needs
+
+enum-told-16 : tie.Need-enum-told-16
+enum-told-16 c = search needs
+
+tbyte-label-requires-2 : tie.Need-tbyte-label-requires-2
+tbyte-label-requires-2 c κs = search needs
+
+labelled-requires-7 : tie.Need-labelled-requires-7
+labelled-requires-7 c κs = search needs
+
+one-requires-9 : tie.Need-one-requires-9
+one-requires-9 c κs = search needs
+
+none-requires : tie.Need-none-requires
+none-requires c κs = search needs
+
+returns : tie.Need-returns
+returns c = let i = instructionOf (now ((c .before .before .before .args) .body)) in
+    rw ((c .one) .ensures, kept-plan i (one place.Branch) (Branch ∷ Xbegin ∷ []) ((c .before .before .before .args) .arm) (kept-branch i) ((c .before .match) .keys1) ((c .before .before .before .pre) .1 .1))
+
+returns-2 : tie.Need-returns-2
+unfolding planOf
+returns-2 c = rw ((c .two) .ensures, (c .before .plain) .ensures, (c .before .before .enum-told) .given .1)
+
+returns-3 : tie.Need-returns-3
+unfolding instructionOf
+returns-3 c = let a = (c .before .before .before .before .before .before .args) in
+    rw ((c .two2) .ensures, (c .before .lsl-source) .ensures, (c .before .before .plain2) .ensures, kept-lsl (instructionOf (now (a .body))) (a .arm) ((c .before .before .before .enum-told2) .given .1) ((c .before .before .before .before .before .before .pre) .1 .1))
+
+returns-4 : tie.Need-returns-4
+unfolding planOf
+returns-4 c = rw ((c .one2) .ensures, (c .before .plain3) .ensures, (c .before .before .enum-told3) .given .1)
+
+returns-5 : tie.Need-returns-5
+unfolding planOf
+returns-5 c = rw ((c .one3) .ensures, (c .before .labelled) .ensures, (c .before .before .enum-told4) .given .1)
+
+returns-6 : tie.Need-returns-6
+unfolding planOf instructionOf
+returns-6 c = rw ((c .two3) .ensures, (c .before .labelled2) .ensures, (c .before .before .lss-label) .ensures, (c .before .before .before .plain4) .ensures, (c .before .before .before .before .before .before .before .pre) .1 .0, (c .before .before .before .before .enum-told5) .given .1)
+
+returns-7 : tie.Need-returns-7
+returns-7 c = let i = instructionOf (now ((c .before .before .before .args) .body)) in
+    rw ((c .three) .ensures, at-group (λ (x : Arm). planOf x i) (three (named eax) (named ecx) (named edx)) (Monitor ∷ Pvalidate ∷ []) ((c .before .before .before .args) .arm) (kept-monitor i) ((c .before .match) .keys7))
+
+returns-8 : tie.Need-returns-8
+unfolding planOf
+returns-8 c = rw ((c .two4) .ensures, (c .before .enum-told6) .given .1)
+
+returns-9 : tie.Need-returns-9
+unfolding planOf
+returns-9 c = rw ((c .two5) .ensures, (c .before .before .plain5) .ensures, (c .before .plain6) .ensures, (c .before .before .before .enum-told7) .given .1)
+
+returns-10 : tie.Need-returns-10
+unfolding planOf instructionOf
+returns-10 c = rw ((c .one4) .ensures, (c .before .labelled3) .ensures, (c .before .before .size-label) .ensures, (c .before .before .before .before .before .before .pre) .1 .0, (c .before .before .before .enum-told8) .given .1)
+
+returns-11 : tie.Need-returns-11
+unfolding planOf instructionOf
+returns-11 c = rw ((c .one5) .ensures, (c .before .labelled4) .ensures, (c .before .before .size-label2) .ensures, (c .before .before .before .before .before .before .pre) .1 .0, (c .before .before .before .enum-told9) .given .1)
+
+returns-12 : tie.Need-returns-12
+unfolding planOf
+returns-12 c = rw ((c .one6) .ensures, (c .before .enum-told10) .given .1)
+
+returns-13 : tie.Need-returns-13
+unfolding planOf instructionOf
+returns-13 c = rw ((c .three2) .ensures, (c .before .labelled5) .ensures, (c .before .before .size-label3) .ensures, (c .before .before .before .plain7) .ensures, (c .before .before .before .before .before .before .before .pre) .1 .0, (c .before .before .before .before .enum-told11) .given .1)
+
+returns-14 : tie.Need-returns-14
+unfolding planOf
+returns-14 c = rw ((c .two6) .ensures, (c .before .before .plain8) .ensures, (c .before .plain9) .ensures, (c .before .before .before .enum-told12) .given .1)
+
+returns-15 : tie.Need-returns-15
+unfolding planOf instructionOf
+returns-15 c = rw ((c .one7) .ensures, (c .before .labelled6) .ensures, (c .before .before .size-label4) .ensures, (c .before .before .before .before .before .before .pre) .1 .0, (c .before .before .before .enum-told13) .given .1)
+
+returns-16 : tie.Need-returns-16
+unfolding planOf
+returns-16 c = rw ((c .fadd) .ensures, (c .before .enum-told14) .given .1)
+
+returns-17 : tie.Need-returns-17
+unfolding planOf instructionOf
+returns-17 c = rw ((c .one8) .ensures, (c .before .tbyte-label) .ensures, (c .before .before .before .before .before .pre) .1 .0, (c .before .before .enum-told15) .given .1)
+
+returns-18 : tie.Need-returns-18
+unfolding planOf instructionOf
+returns-18 c = rw ((c .one9) .ensures, (c .before .labelled7) .ensures, (c .before .before .tbyte-label2) .ensures, (c .before .before .before .before .before .before .pre) .1 .0, (c .before .before .before .enum-told16) .given .1)
+
+returns-19 : tie.Need-returns-19
+returns-19 c = let i = instructionOf (now ((c .before .before .before .args) .body)) in
+    rw ((c .none) .ensures, kept-name i ((c .before .before .before .args) .arm) ((c .before .match) .keys19) ((c .before .before .before .pre) .1 .1))
+
+pub own-spec : {M : Type 1} → statement M
+own-spec =
+    tie.close
+    (tie.spec
+    one-requires
+    enum-told
+    plain-requires
+    two-requires
+    enum-told-2
+    plain-requires-2
+    lsl-source-requires
+    two-requires-2
+    enum-told-3
+    plain-requires-3
+    one-requires-2
+    enum-told-4
+    labelled-requires
+    one-requires-3
+    enum-told-5
+    plain-requires-4
+    lss-label-requires
+    labelled-requires-2
+    two-requires-3
+    three-requires
+    enum-told-6
+    two-requires-4
+    enum-told-7
+    plain-requires-5
+    plain-requires-6
+    two-requires-5
+    enum-told-8
+    size-label-requires
+    labelled-requires-3
+    one-requires-4
+    enum-told-9
+    size-label-requires-2
+    labelled-requires-4
+    one-requires-5
+    enum-told-10
+    one-requires-6
+    enum-told-11
+    plain-requires-7
+    size-label-requires-3
+    labelled-requires-5
+    three-requires-2
+    enum-told-12
+    plain-requires-8
+    plain-requires-9
+    two-requires-6
+    enum-told-13
+    size-label-requires-4
+    labelled-requires-6
+    one-requires-7
+    enum-told-14
+    fadd-requires
+    enum-told-15
+    tbyte-label-requires
+    one-requires-8
+    enum-told-16
+    tbyte-label-requires-2
+    labelled-requires-7
+    one-requires-9
+    none-requires
+    returns
+    returns-2
+    returns-3
+    returns-4
+    returns-5
+    returns-6
+    returns-7
+    returns-8
+    returns-9
+    returns-10
+    returns-11
+    returns-12
+    returns-13
+    returns-14
+    returns-15
+    returns-16
+    returns-17
+    returns-18
+    returns-19)

@@ -1,0 +1,105 @@
+-- `arms::tests::is_general` meets its contract: at each return the arm is known, and the law of that arm says which of its records take
+-- the general path.
+-- Assumes nothing.
+use mathlib.Core.Bool.{true, false}
+use mathlib.Core.List.{List, [], _∷_, _++_}
+use mathlib.Core.Path.{sym}
+use denote.Ref.{now}
+use Rattle.names.specs.declared.Arm.{Arm}
+use Rattle.names.specs.declared.Arm.the-variants.{General, Qword, Mmword, Jmpf, Callf, Lds, Movs, Cmps, Branch, Xbegin, Lsl, Nop, Incssp, Wrss, Aam}
+use Rattle.bodies.specs.Decoding.{instructionOf}
+use Rattle.arms.specs.Size.{generalPath}
+use Rattle.arms.proofs.Groups.{of-group, others}
+use Rattle.arms.proofs.GeneralPath.{path-of-branch, path-of-xbegin, path-of-lsl, path-of-nop, path-of-aam}
+use borrow.Author.Needs.{needs}
+use Rattle.arms.proofs.tests.is_general.Statement.{statement}
+use Rattle.arms.proofs.tests.is_general.Tie as tie
+
+-- the arms of the general path, and those that leave some records to it
+abbrev own : List Arm
+own = General ∷ Qword ∷ Mmword ∷ Jmpf ∷ Callf ∷ Lds ∷ Movs ∷ Cmps ∷ Incssp ∷ Wrss ∷ []
+
+abbrev leaving : List Arm
+leaving = Branch ∷ Xbegin ∷ Lsl ∷ Nop ∷ Aam ∷ []
+
+enum-told : tie.Need-enum-told
+enum-told c = search needs
+
+immediate-kind-at-requires : tie.Need-immediate-kind-at-requires
+immediate-kind-at-requires c κs = search needs
+
+enum-told-2 : tie.Need-enum-told-2
+enum-told-2 c = search needs
+
+immediate-kind-at-requires-2 : tie.Need-immediate-kind-at-requires-2
+immediate-kind-at-requires-2 c κs = search needs
+
+enum-told-3 : tie.Need-enum-told-3
+enum-told-3 c = search needs
+
+is-register-at-requires : tie.Need-is-register-at-requires
+is-register-at-requires c κs = search needs
+
+is-register-at-requires-2 : tie.Need-is-register-at-requires-2
+is-register-at-requires-2 c κs = search needs
+
+enum-told-4 : tie.Need-enum-told-4
+enum-told-4 c = search needs
+
+is-absent-at-requires : tie.Need-is-absent-at-requires
+is-absent-at-requires c κs = search needs
+
+enum-told-5 : tie.Need-enum-told-5
+enum-told-5 c = search needs
+
+imm-requires : tie.Need-imm-requires
+imm-requires c κs = search needs
+
+returns : tie.Need-returns
+returns c = sym (of-group (λ (x : Arm). generalPath x (instructionOf (now ((c .before .before .args) .body)))) true own ((c .before .before .args) .arm) tt ((c .match) .keys1))
+
+returns-2 : tie.Need-returns-2
+unfolding instructionOf
+returns-2 c = rw ((c .immediate-kind-at) .ensures, (c .before .enum-told) .given .1) (sym (path-of-branch (instructionOf (now ((c .before .before .before .before .args) .body)))))
+
+returns-3 : tie.Need-returns-3
+unfolding instructionOf
+returns-3 c = rw ((c .immediate-kind-at2) .ensures, (c .before .enum-told2) .given .1) (sym (path-of-xbegin (instructionOf (now ((c .before .before .before .before .args) .body)))))
+
+returns-4 : tie.Need-returns-4
+unfolding instructionOf
+returns-4 c = rw ((c .before .is-register-at) .ensures, (c .is-register-at2) .ensures, (c .before .before .enum-told3) .given .1) (sym (path-of-lsl (instructionOf (now ((c .before .before .before .before .before .args) .body)))))
+
+returns-5 : tie.Need-returns-5
+unfolding instructionOf
+returns-5 c = rw ((c .is-absent-at) .ensures, (c .before .enum-told4) .given .1) (sym (path-of-nop (instructionOf (now ((c .before .before .before .before .args) .body)))))
+
+returns-6 : tie.Need-returns-6
+unfolding instructionOf
+returns-6 c = rw ((c .imm) .ensures, (c .before .enum-told5) .given .1) (sym (path-of-aam (instructionOf (now ((c .before .before .before .before .args) .body)))))
+
+returns-7 : tie.Need-returns-7
+returns-7 c = sym (of-group (λ (x : Arm). generalPath x (instructionOf (now ((c .before .before .args) .body)))) false (others (own ++ leaving)) ((c .before .before .args) .arm) tt ((c .match) .keys7))
+
+pub is-general-spec : {M : Type 1} → statement M
+is-general-spec =
+    tie.close
+    (tie.spec
+    enum-told
+    immediate-kind-at-requires
+    enum-told-2
+    immediate-kind-at-requires-2
+    enum-told-3
+    is-register-at-requires
+    is-register-at-requires-2
+    enum-told-4
+    is-absent-at-requires
+    enum-told-5
+    imm-requires
+    returns
+    returns-2
+    returns-3
+    returns-4
+    returns-5
+    returns-6
+    returns-7)

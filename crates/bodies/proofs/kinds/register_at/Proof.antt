@@ -1,0 +1,50 @@
+-- `bodies::kinds::register_at` meets its contract: below the count the kind byte says it, and from there up there is no operand.
+-- Assumes nothing.
+use native.Mathlib.Omega.{arith}
+use denote.Ref.{now}
+use borrow.Author.Tests.{le-leb, lt-leb}
+use Rattle.bodies.proofs.ByKind.{operand-none, register-byte-by-kind}
+use borrow.Author.Needs.{needs}
+use Rattle.bodies.proofs.kinds.register_at.Statement.{statement}
+use Rattle.bodies.proofs.kinds.register_at.Tie as tie
+
+count-requires : tie.Need-count-requires
+count-requires c κs = search needs
+
+mul-at : tie.Need-mul-at
+mul-at c = search needs
+
+add-at : tie.Need-add-at
+add-at c = search needs
+
+shared-slice-read-if2 : tie.Need-shared-slice-read-if2
+shared-slice-read-if2 c = search needs
+
+add-result : tie.Need-add-result
+add-result c = search needs
+
+shared-slice-read-result : tie.Need-shared-slice-read-result
+shared-slice-read-result c = search needs
+
+returns : tie.Need-returns
+returns c = let a = (c .before .before .before .before .before .before .args) in rw (register-byte-by-kind (now (a .body)) (a .k) (omega (arith, (c .before .before .before .before .count) .ensures, (c .before .before .before .if1) .taken)), le-leb _ _ ((c .before .if2) .taken))
+
+returns-2 : tie.Need-returns-2
+returns-2 c = let a = (c .before .before .before .before .before .args) in rw (register-byte-by-kind (now (a .body)) (a .k) (omega (arith, (c .before .before .before .count) .ensures, (c .before .before .if1) .taken)), lt-leb _ _ ((c .if2) .left))
+
+returns-3 : tie.Need-returns-3
+returns-3 c = let a = (c .before .before .before .args) in rw (operand-none (now (a .body)) (a .k) (omega (arith, (c .before .count) .ensures, (c .if1) .left)))
+
+pub register-at-spec : {M : Type 1} → statement M
+register-at-spec =
+    tie.close
+    (tie.spec
+    count-requires
+    mul-at
+    add-at
+    shared-slice-read-if2
+    add-result
+    shared-slice-read-result
+    returns
+    returns-2
+    returns-3)
