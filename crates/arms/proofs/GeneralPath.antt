@@ -57,7 +57,7 @@ use Rattle.arms.specs.Tests.{isBranch, isXbegin, lslSource, mmwordFor}
 use Rattle.arms.specs.Labels.{generalLabel}
 use Rattle.arms.specs.Plans.{plain, named, none, one, two, three, spread, general, generalBy, generally, planOf}
 use Rattle.arms.specs.Size.{generalPath}
-use Rattle.arms.proofs.Groups.{tag, at-group, of-group, Each}
+use Rattle.names.proofs.ArmGroups.{tag, at-group, of-group, Each}
 
 -- an arm that leaves its record to the general path where the test fails, or where it holds
 left : {X : Type 0} (p : Bool) (x y : X) → not p ≡ true → cond p x y ≡ y

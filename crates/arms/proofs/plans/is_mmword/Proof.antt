@@ -6,7 +6,7 @@ use borrow.Author.Tests.{eq-eqb, ne-eqb}
 use Rattle.names.specs.Among.{isArm}
 use Rattle.names.specs.declared.Arm.{Arm}
 use Rattle.names.specs.declared.Arm.the-variants.{Qword, Mmword}
-use Rattle.arms.proofs.Groups.{of-group, others}
+use Rattle.names.proofs.ArmGroups.{of-group, others}
 use borrow.Author.Needs.{needs}
 use Rattle.arms.proofs.plans.is_mmword.Statement.{statement}
 use Rattle.arms.proofs.plans.is_mmword.Tie as tie

@@ -8,7 +8,7 @@ use Rattle.names.specs.declared.Arm.{Arm}
 use Rattle.names.specs.declared.Arm.the-variants.{Branch, Xbegin, Monitor, Pvalidate}
 use Rattle.bodies.specs.Decoding.{instructionOf}
 use Rattle.arms.specs.Plans.{named, one, three, planOf}
-use Rattle.arms.proofs.Groups.{at-group}
+use Rattle.names.proofs.ArmGroups.{at-group}
 use Rattle.arms.proofs.GeneralPath.{kept-plan, kept-branch, kept-lsl, kept-monitor, kept-name}
 use borrow.Author.Needs.{needs}
 use Rattle.arms.proofs.plans.own.Statement.{statement}

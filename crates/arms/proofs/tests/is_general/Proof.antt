@@ -9,7 +9,7 @@ use Rattle.names.specs.declared.Arm.{Arm}
 use Rattle.names.specs.declared.Arm.the-variants.{General, Qword, Mmword, Jmpf, Callf, Lds, Movs, Cmps, Branch, Xbegin, Lsl, Nop, Incssp, Wrss, Aam}
 use Rattle.bodies.specs.Decoding.{instructionOf}
 use Rattle.arms.specs.Size.{generalPath}
-use Rattle.arms.proofs.Groups.{of-group, others}
+use Rattle.names.proofs.ArmGroups.{of-group, others}
 use Rattle.arms.proofs.GeneralPath.{path-of-branch, path-of-xbegin, path-of-lsl, path-of-nop, path-of-aam}
 use borrow.Author.Needs.{needs}
 use Rattle.arms.proofs.tests.is_general.Statement.{statement}
