@@ -1,6 +1,6 @@
 -- The cases of a step, as the code's tests find them, and what bounds it.
 -- Assumes nothing.
-use mathlib.Core.Path.{_≡_, refl, sym, ap, _∙_}
+use mathlib.Core.Path.{_≡_, refl, sym, ap, subst, _∙_}
 use mathlib.Core.Bool.{Bool, true, false, cond}
 use mathlib.Core.List.{List, [], _∷_, _++_}
 use mathlib.Core.Logic.{_⊎_, inl, inr}
@@ -183,3 +183,7 @@ whole-took asked xs k {n} {number} {refused} e two short all same puts by =
   where
     told : refusedBy (answerOf (refusals asked (take n (drop 2 xs)))) ≡ refused
     told = rw (← same, ← (puts .answer)) (sym by)
+
+-- what is left of a frame is of the frame
+pub skip-within : {stage : Stage} {left size : ℕ} → stage ≡ Skip left size → Alive stage → left ≤ size
+skip-within e alive = subst Alive e alive .1

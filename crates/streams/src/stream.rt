@@ -8,7 +8,7 @@ ghost use Rattle.names.specs.Opcodes.{MnemonicTable, ArmTable};
 ghost use Rattle.names.specs.Registers.{RegisterTable};
 ghost use Rattle.names.specs.Labels.{LabelTable};
 ghost use Rattle.lines.specs.Text.{longestLine};
-ghost use Rattle.streams.specs.Stream.{Took, versionStep, skipStep, frameStep, stepped, refusedBy};
+ghost use Rattle.streams.specs.Stream.{Took, versionStep, skipStep, frameStep, stepped, refusedBy, Alive, begunOf};
 use crate::Stage;
 use crate::Step;
 use answers::LENGTH;
@@ -205,5 +205,18 @@ pub fn step(
             records: 0,
             refused: 0,
         },
+    }
+}
+
+// How many bytes of a frame that has begun were used.
+pub fn begun(stage: Stage) -> usize
+    requires { ⌜ Alive stage ⌝ }
+    ensures { λ r. ⌜ r ≡ begunOf stage ⌝ }
+{
+    match stage {
+        Stage::Version => 0,
+        Stage::Frames => 0,
+        Stage::Skip { left, size } => size - left,
+        Stage::Done => 0,
     }
 }

@@ -4,11 +4,11 @@ use Rattle.streams.proofs.Passing.{Going, going-start, going-on, uses-w
 use Rattle.streams.proofs.pass.pass.Statement.{statement}
 use Rattle.streams.proofs.pass.pass.Tie as tie
 use borrow.Author.Needs.{needs}
-
 use Prim.Native.Nat.{_-_}
 use native.Mathlib.Omega.{arith}
 use denote.Ref.{now}
 use lib.ListN.{length}
+
 abbrev Inv-loop : tie.InvT-loop
 Inv-loop name-letters name-starts register-letters register-starts label-letters label-starts arms input ended asked text₀ stage₀ at₀ out₀ records₀ refused₀ text stage at out records refused =
     Going asked stage₀ input text₀ stage at out records refused text
