@@ -1,62 +1,34 @@
 // From standard input to standard output, through one buffer of 64 KiB for what is read and one for what is written. All that
-// matters is `listings::stream::step`; here are the calls of the system, of which no contract can speak.
+// matters is `streams::pass::pass`; here are the calls of the system, of which no contract can speak.
 ghost use mathlib.Core.Path.{_≡_};
-ghost use Prim.Native.Nat.{_+_, _≤_};
-ghost use lib.ListN.{length};
+ghost use Prim.Native.Nat.{_+_, _-_, _^_, _≤_, _<_, min};
+ghost use lib.ListN.{length, take, drop};
 ghost use Rattle.names.specs.Opcodes.{MnemonicTable, ArmTable};
 ghost use Rattle.names.specs.Registers.{RegisterTable};
 ghost use Rattle.names.specs.Labels.{LabelTable};
 ghost use Rattle.lines.specs.Text.{longestLine};
+ghost use Rattle.bodies.specs.Refusals.{longestBody};
+ghost use Rattle.streams.specs.Stream.{Alive};
+ghost use Rattle.streams.specs.Pass.{Passes};
 use libc::STDERR_FILENO;
 use libc::STDIN_FILENO;
 use libc::STDOUT_FILENO;
-use lines::LONGEST_LINE;
-use listings::Stage;
 use names::labels;
 use names::opcodes;
 use names::registers;
 use records::Asked;
+use streams::Next;
+use streams::Passed;
+use streams::Stage;
 
-// What came of the bytes that were there: the stage then, how many were used, and whether all lines could be written.
-pub struct Passed {
-    pub stage: Stage,
-    pub used: usize,
+// A pass, and whether its lines could be written.
+pub struct Turn {
+    pub passed: Passed,
     pub written: bool,
 }
 
-// The place of the next line in the buffer of lines, and whether those before could be written.
-pub struct Kept {
-    pub out: usize,
-    pub written: bool,
-}
-
-// Writes the lines out where there might be no room for the next one.
-fn keep_room(text: &[u8], out: usize) -> Kept
-    requires { ⌜ (longestLine + 1 ≤ length (now text)) × (out ≤ length (now text)) ⌝ }
-    ensures { λ r. ⌜ r .out + longestLine + 1 ≤ length (now (text .entry)) ⌝ }
-{
-    if LONGEST_LINE < text.len() - out {
-        return Kept { out, written: true };
-    }
-    let written = io::write_all(STDOUT_FILENO, &text[..out]);
-    Kept { out: 0, written }
-}
-
-// Writes the lines out for good, before more is read.
-fn written_out(stage: Stage, used: usize, text: &[u8], out: usize) -> Passed
-    requires { ⌜ out ≤ length (now text) ⌝ }
-    ensures { λ r. ⌜ r .used ≡ used ⌝ }
-{
-    let written = io::write_all(STDOUT_FILENO, &text[..out]);
-    Passed {
-        stage,
-        used,
-        written,
-    }
-}
-
-// Takes steps until one uses nothing.
-fn pass(
+// One pass over the bytes that are held, and its lines on standard output.
+fn turn_of(
     name_letters: &opcodes::Letters,
     name_starts: &opcodes::Starts,
     register_letters: &registers::Letters,
@@ -66,56 +38,41 @@ fn pass(
     arms: &opcodes::Arms,
     stage: Stage,
     input: &[u8],
+    ended: bool,
     asked: Asked,
     text: &mut [u8],
-) -> Passed
+) -> Turn
     requires { ⌜ MnemonicTable (now «name_letters») (now «name_starts») ⌝ }
     requires { ⌜ RegisterTable (now «register_letters») (now «register_starts») ⌝ }
     requires { ⌜ LabelTable (now «label_letters») (now «label_starts») ⌝ }
     requires { ⌜ ArmTable (now arms) ⌝ }
+    requires { ⌜ Alive stage ⌝ }
     requires { ⌜ longestLine + 1 ≤ length (now text) ⌝ }
-    ensures { λ r. ⌜ r .used ≤ length (now (input .entry)) ⌝ }
+    ensures { λ r. ⌜ Passes asked stage (now (input .entry)) ended (r .passed) (now (text .exit)) ⌝ }
 {
-    let mut stage = stage;
-    let mut at = 0;
-    let mut out = 0;
-    while at < input.len() {
-        let next = listings::stream::step(
-            name_letters,
-            name_starts,
-            register_letters,
-            register_starts,
-            label_letters,
-            label_starts,
-            arms,
-            stage,
-            &input[at..],
-            asked,
-            text,
-            out,
-        );
-        stage = next.stage;
-        if next.used == 0 {
-            return written_out(stage, at, text, next.out);
-        }
-        at += next.used;
-        let kept = keep_room(text, next.out);
-        if !kept.written {
-            return Passed {
-                stage,
-                used: at,
-                written: false,
-            };
-        }
-        out = kept.out;
-    }
-    written_out(stage, at, text, out)
+    let passed = streams::pass::pass(
+        name_letters,
+        name_starts,
+        register_letters,
+        register_starts,
+        label_letters,
+        label_starts,
+        arms,
+        stage,
+        input,
+        ended,
+        asked,
+        text,
+    );
+    let written = io::write_all(STDOUT_FILENO, &text[..passed.out]);
+    Turn { passed, written }
 }
 
-// Moves the bytes from `from` up to `have` to the front. They are never more than a frame that is not whole yet.
+// Moves the bytes from `from` up to `have` to the front.
 fn move_down(input: &mut [u8], from: usize, have: usize)
     requires { ⌜ (from ≤ have) × (have ≤ length (now input)) ⌝ }
     ensures { λ _. ⌜ length (now (input .exit)) ≡ length (now (input .entry)) ⌝ }
+    ensures { λ _. ⌜ take (have - from) (now (input .exit)) ≡ drop from (take have (now (input .entry))) ⌝ }
 {
     let mut i = from;
     while i < have {
@@ -130,10 +87,11 @@ pub struct Got {
     pub failed: bool,
 }
 
-// Reads once, behind the bytes that are held.
+// Reads once, after the bytes that are held. There is room for some, so none means the end of the input.
 fn read_more(input: &mut [u8], held: usize) -> Got
-    requires { ⌜ held ≤ length (now input) ⌝ }
+    requires { ⌜ held < length (now input) ⌝ }
     ensures { λ r. ⌜ held + r .count ≤ length (now (input .entry)) ⌝ }
+    ensures { λ _. ⌜ take held (now (input .exit)) ≡ take held (now (input .entry)) ⌝ }
 {
     let got = libc::read(STDIN_FILENO, &mut input[held..]);
     if got < 0 {
@@ -149,21 +107,85 @@ fn read_more(input: &mut [u8], held: usize) -> Got
     }
 }
 
-// How a round of reading and writing ended.
+// What was counted since the start: whole frames, those that are refused, and bytes that were used. A count that no number holds
+// stays at the largest.
+pub struct Tally {
+    pub records: u64,
+    pub refused: u64,
+    pub used: u64,
+}
+
+fn add(total: u64, more: usize) -> u64
+    ensures { λ r. ⌜ r ≡ min (total + more) (2 ^ 64 - 1) ⌝ }
+{
+    let more = more as u64;
+    if u64::MAX - total < more {
+        u64::MAX
+    } else {
+        total + more
+    }
+}
+
+fn less(total: u64, some: usize) -> u64
+    ensures { λ r. ⌜ r ≡ total - some ⌝ }
+{
+    let some = some as u64;
+    if total < some { 0 } else { total - some }
+}
+
+// How the run stands: it goes on, or how it ended.
 pub enum End {
     More,
-    Input,
+    Whole,
+    Cut,
+    Unknown,
     ReadFailed,
     WriteFailed,
 }
 
-pub struct Round {
+// Between two turns: the stage, the bytes held (from `from` up to `have`), whether the input has ended, what was counted, and how
+// the run stands.
+pub struct State {
     pub stage: Stage,
-    pub held: usize,
+    pub from: usize,
+    pub have: usize,
+    pub ended: bool,
+    pub tally: Tally,
     pub end: End,
 }
 
-// Reads once, and writes the lines of all frames that are whole then.
+// More bytes, after those that are held, which move to the front.
+fn refilled(stage: Stage, from: usize, have: usize, tally: Tally, input: &mut [u8]) -> State
+    requires { ⌜ (from ≤ have) × (have ≤ length (now input)) ⌝ }
+    requires { ⌜ have - from < length (now input) ⌝ }
+    requires { ⌜ Alive stage ⌝ }
+    ensures { λ r. ⌜ (r .from ≤ r .have) × (r .have ≤ length (now (input .entry))) ⌝ }
+    ensures { λ r. ⌜ Alive (r .stage) ⌝ }
+{
+    move_down(input, from, have);
+    let held = have - from;
+    let got = read_more(input, held);
+    if got.failed {
+        return State {
+            stage,
+            from: 0,
+            have: held,
+            ended: true,
+            tally,
+            end: End::ReadFailed,
+        };
+    }
+    State {
+        stage,
+        from: 0,
+        have: held + got.count,
+        ended: got.count == 0,
+        tally,
+        end: End::More,
+    }
+}
+
+// A pass, its lines, and more bytes where it needs them.
 fn round_of(
     name_letters: &opcodes::Letters,
     name_starts: &opcodes::Starts,
@@ -172,37 +194,28 @@ fn round_of(
     label_letters: &labels::Letters,
     label_starts: &labels::Starts,
     arms: &opcodes::Arms,
-    stage: Stage,
-    held: usize,
+    state: State,
     input: &mut [u8],
     asked: Asked,
     text: &mut [u8],
-) -> Round
+) -> State
     requires { ⌜ MnemonicTable (now «name_letters») (now «name_starts») ⌝ }
     requires { ⌜ RegisterTable (now «register_letters») (now «register_starts») ⌝ }
     requires { ⌜ LabelTable (now «label_letters») (now «label_starts») ⌝ }
     requires { ⌜ ArmTable (now arms) ⌝ }
-    requires { ⌜ held ≤ length (now input) ⌝ }
+    requires { ⌜ (state .from ≤ state .have) × (state .have ≤ length (now input)) ⌝ }
+    requires { ⌜ Alive (state .stage) ⌝ }
+    requires { ⌜ longestBody + 1 < length (now input) ⌝ }
     requires { ⌜ longestLine + 1 ≤ length (now text) ⌝ }
-    ensures { λ r. ⌜ r .held ≤ length (now (input .entry)) ⌝ }
+    ensures { λ r. ⌜ (r .from ≤ r .have) × (r .have ≤ length (now (input .entry))) ⌝ }
+    ensures { λ r. ⌜ Alive (r .stage) ⌝ }
 {
-    let got = read_more(input, held);
-    if got.failed {
-        return Round {
-            stage,
-            held,
-            end: End::ReadFailed,
-        };
-    }
-    if got.count == 0 {
-        return Round {
-            stage,
-            held,
-            end: End::Input,
-        };
-    }
-    let have = held + got.count;
-    let all = pass(
+    let stage = state.stage;
+    let from = state.from;
+    let have = state.have;
+    let ended = state.ended;
+    let before = state.tally;
+    let turn = turn_of(
         name_letters,
         name_starts,
         register_letters,
@@ -211,45 +224,100 @@ fn round_of(
         label_starts,
         arms,
         stage,
-        &input[..have],
+        &input[from..have],
+        ended,
         asked,
         text,
     );
-    let stage = all.stage;
-    let used = all.used;
-    move_down(input, used, have);
-    if all.written {
-        return Round {
+    let passed = turn.passed;
+    let stage = passed.stage;
+    let from = from + passed.used;
+    let tally = Tally {
+        records: add(before.records, passed.records),
+        refused: add(before.refused, passed.refused),
+        used: add(before.used, passed.used),
+    };
+    if !turn.written {
+        return State {
             stage,
-            held: have - used,
-            end: End::More,
+            from,
+            have,
+            ended,
+            tally,
+            end: End::WriteFailed,
         };
     }
-    Round {
-        stage,
-        held: have - used,
-        end: End::WriteFailed,
+    let next = passed.next;
+    match next {
+        Next::Full => State {
+            stage,
+            from,
+            have,
+            ended,
+            tally,
+            end: End::More,
+        },
+        Next::Read => refilled(stage, from, have, tally, input),
+        Next::Whole => State {
+            stage,
+            from,
+            have,
+            ended,
+            tally,
+            end: End::Whole,
+        },
+        Next::Cut => State {
+            stage,
+            from,
+            have,
+            ended,
+            tally,
+            end: End::Cut,
+        },
+        Next::Unknown => State {
+            stage,
+            from,
+            have,
+            ended,
+            tally,
+            end: End::Unknown,
+        },
     }
 }
 
-// What is left to say, on standard output or standard error.
-fn finish(last: Round) {
-    let end = last.end;
+// The last words, on standard error: what was counted, and how the run ended.
+fn report(last: State)
+    requires { ⌜ Alive (last .stage) ⌝ }
+{
     let stage = last.stage;
+    let tally = last.tally;
+    let end = last.end;
+    io::write_all(STDERR_FILENO, b"list: ");
+    io::print_decimal(STDERR_FILENO, tally.records);
+    io::write_all(STDERR_FILENO, b" records, ");
+    io::print_decimal(STDERR_FILENO, tally.refused);
+    io::write_all(STDERR_FILENO, b" refused; ");
     match end {
         End::More => {}
-        End::Input => {
-            if listings::stream::is_cut(stage, last.held) {
-                if !io::write_all(STDOUT_FILENO, b"; cut\n") {
-                    io::write_all(STDERR_FILENO, b"list: standard output cannot be written\n");
-                }
-            }
+        End::Whole => {
+            io::write_all(STDERR_FILENO, b"whole\n");
+        }
+        End::Cut => {
+            io::write_all(STDERR_FILENO, b"cut at byte ");
+            io::print_decimal(
+                STDERR_FILENO,
+                less(tally.used, streams::stream::begun(stage)),
+            );
+            io::write_all(STDERR_FILENO, b"\n");
+        }
+        End::Unknown => {
+            io::write_all(STDERR_FILENO, b"unknown version\n");
         }
         End::ReadFailed => {
-            io::write_all(STDERR_FILENO, b"list: standard input cannot be read\n");
+            io::write_all(STDERR_FILENO, b"standard input cannot be read\n");
         }
         End::WriteFailed => {
-            io::write_all(STDERR_FILENO, b"list: standard output cannot be written\n");
+            io::write_all(STDERR_FILENO, b"standard output cannot be written\n");
         }
     }
 }
@@ -267,8 +335,18 @@ pub fn run(mode: u32) {
     let arms = names::opcodes::ARMS;
     let mut input = io::large_buffer();
     let mut text = io::large_buffer();
-    let mut stage = Stage::Version;
-    let mut held = 0;
+    let mut state = State {
+        stage: Stage::Version,
+        from: 0,
+        have: 0,
+        ended: false,
+        tally: Tally {
+            records: 0,
+            refused: 0,
+            used: 0,
+        },
+        end: End::More,
+    };
     let mut turns = u64::MAX;
     while turns > 0 {
         turns -= 1;
@@ -280,18 +358,16 @@ pub fn run(mode: u32) {
             &label_letters,
             &label_starts,
             &arms,
-            stage,
-            held,
+            state,
             &mut input,
             asked,
             &mut text,
         );
         let end = last.end;
         if let End::More = end {
-            stage = last.stage;
-            held = last.held;
+            state = last;
         } else {
-            finish(last);
+            report(last);
             return;
         }
     }

@@ -1,2 +1,3 @@
 -- A listing that arrives in parts. Definitions only: the laws are in proofs/.
 pub mod Stream
+pub mod Pass

@@ -8,10 +8,11 @@ ghost use Rattle.names.specs.Opcodes.{MnemonicTable, ArmTable};
 ghost use Rattle.names.specs.Registers.{RegisterTable};
 ghost use Rattle.names.specs.Labels.{LabelTable};
 ghost use Rattle.lines.specs.Text.{longestLine};
-ghost use Rattle.streams.specs.Stream.{Took, versionStep, skipStep, frameStep, stepped, cutAt};
+ghost use Rattle.streams.specs.Stream.{Took, versionStep, skipStep, frameStep, stepped, refusedBy, Alive, begunOf};
 use crate::Stage;
 use crate::Step;
 use answers::LENGTH;
+use answers::PRINTED;
 use bodies::rules::LONGEST_BODY;
 use names::labels;
 use names::opcodes;
@@ -21,13 +22,15 @@ use records::put::put_record;
 
 fn step_version(input: &[u8], text: &mut [u8], out: usize) -> Step
     requires { ⌜ out + longestLine + 1 ≤ length (now text) ⌝ }
-    ensures { λ r. ⌜ Took (versionStep (now (input .entry))) (now (text .entry)) out (r .stage) (r .used) (r .out) (now (text .exit)) ⌝ }
+    ensures { λ r. ⌜ Took (versionStep (now (input .entry))) (now (text .entry)) out r (now (text .exit)) ⌝ }
 {
     if input.len() == 0 {
         return Step {
             stage: Stage::Version,
             used: 0,
             out,
+            records: 0,
+            refused: 0,
         };
     }
     if frames::known_version(input[0]) {
@@ -35,6 +38,8 @@ fn step_version(input: &[u8], text: &mut [u8], out: usize) -> Step
             stage: Stage::Frames,
             used: 1,
             out,
+            records: 0,
+            refused: 0,
         };
     }
     let next = text::put_bytes(text, out, b"; version\n");
@@ -42,19 +47,26 @@ fn step_version(input: &[u8], text: &mut [u8], out: usize) -> Step
         stage: Stage::Done,
         used: 1,
         out: next,
+        records: 0,
+        refused: 0,
     }
 }
 
-fn step_skip(left: usize, input: &[u8], text: &mut [u8], out: usize) -> Step
+fn step_skip(left: usize, size: usize, input: &[u8], text: &mut [u8], out: usize) -> Step
     requires { ⌜ out + longestLine + 1 ≤ length (now text) ⌝ }
-    ensures { λ r. ⌜ Took (skipStep left (now (input .entry))) (now (text .entry)) out (r .stage) (r .used) (r .out) (now (text .exit)) ⌝ }
+    ensures { λ r. ⌜ Took (skipStep left size (now (input .entry))) (now (text .entry)) out r (now (text .exit)) ⌝ }
 {
     let here = input.len();
     if here < left {
         return Step {
-            stage: Stage::Skip(left - here),
+            stage: Stage::Skip {
+                left: left - here,
+                size,
+            },
             used: here,
             out,
+            records: 0,
+            refused: 0,
         };
     }
     let next = answers::put_refused(text, out, LENGTH);
@@ -62,7 +74,16 @@ fn step_skip(left: usize, input: &[u8], text: &mut [u8], out: usize) -> Step
         stage: Stage::Frames,
         used: left,
         out: next,
+        records: 1,
+        refused: 1,
     }
+}
+
+// A frame is refused, or not, by its record's answer.
+fn refused_by(number: u8) -> usize
+    ensures { λ r. ⌜ r ≡ refusedBy number ⌝ }
+{
+    if number == PRINTED { 0 } else { 1 }
 }
 
 fn step_frame(
@@ -83,21 +104,28 @@ fn step_frame(
     requires { ⌜ LabelTable (now «label_letters») (now «label_starts») ⌝ }
     requires { ⌜ ArmTable (now arms) ⌝ }
     requires { ⌜ out + longestLine + 1 ≤ length (now text) ⌝ }
-    ensures { λ r. ⌜ Took (frameStep asked (now (input .entry))) (now (text .entry)) out (r .stage) (r .used) (r .out) (now (text .exit)) ⌝ }
+    ensures { λ r. ⌜ Took (frameStep asked (now (input .entry))) (now (text .entry)) out r (now (text .exit)) ⌝ }
 {
     if input.len() < 2 {
         return Step {
             stage: Stage::Frames,
             used: 0,
             out,
+            records: 0,
+            refused: 0,
         };
     }
     let size = frames::numbers::word_at(input, 0) as usize;
     if LONGEST_BODY < size {
         return Step {
-            stage: Stage::Skip(size),
+            stage: Stage::Skip {
+                left: size,
+                size: 2 + size,
+            },
             used: 2,
             out,
+            records: 0,
+            refused: 0,
         };
     }
     let end = 2 + size;
@@ -106,6 +134,8 @@ fn step_frame(
             stage: Stage::Frames,
             used: 0,
             out,
+            records: 0,
+            refused: 0,
         };
     }
     let placed = put_record(
@@ -126,6 +156,8 @@ fn step_frame(
         stage: Stage::Frames,
         used: end,
         out: placed.out,
+        records: 1,
+        refused: refused_by(placed.number),
     }
 }
 
@@ -148,7 +180,7 @@ pub fn step(
     requires { ⌜ LabelTable (now «label_letters») (now «label_starts») ⌝ }
     requires { ⌜ ArmTable (now arms) ⌝ }
     requires { ⌜ out + longestLine + 1 ≤ length (now text) ⌝ }
-    ensures { λ r. ⌜ Took (stepped asked stage (now (input .entry))) (now (text .entry)) out (r .stage) (r .used) (r .out) (now (text .exit)) ⌝ }
+    ensures { λ r. ⌜ Took (stepped asked stage (now (input .entry))) (now (text .entry)) out r (now (text .exit)) ⌝ }
 {
     match stage {
         Stage::Version => step_version(input, text, out),
@@ -165,23 +197,26 @@ pub fn step(
             text,
             out,
         ),
-        Stage::Skip(left) => step_skip(left, input, text, out),
+        Stage::Skip { left, size } => step_skip(left, size, input, text, out),
         Stage::Done => Step {
             stage: Stage::Done,
             used: input.len(),
             out,
+            records: 0,
+            refused: 0,
         },
     }
 }
 
-// What is left to say where the input ends with so many bytes held: `; cut`, or nothing.
-pub fn is_cut(stage: Stage, held: usize) -> bool
-    ensures { λ r. ⌜ r ≡ cutAt stage held ⌝ }
+// How many bytes of a frame that has begun were used.
+pub fn begun(stage: Stage) -> usize
+    requires { ⌜ Alive stage ⌝ }
+    ensures { λ r. ⌜ r ≡ begunOf stage ⌝ }
 {
     match stage {
-        Stage::Version => true,
-        Stage::Frames => 0 < held,
-        Stage::Skip(_) => true,
-        Stage::Done => false,
+        Stage::Version => 0,
+        Stage::Frames => 0,
+        Stage::Skip { left, size } => size - left,
+        Stage::Done => 0,
     }
 }

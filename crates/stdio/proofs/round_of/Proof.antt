@@ -1,44 +1,61 @@
--- `stdio::round_of` meets its contract: what is passed on lies within what was read.
--- Assumes nothing.
-use Prim.Native.Nat.{_+_}
+-- `stdio::round_of` meets its contract: what is held lies within what was read, and is few bytes where more is to be read.
 use native.Mathlib.Omega.{arith}
+use denote.Ref.{now}
+use Rattle.stdio.proofs.Rounds.{used-to, few-held}
 use borrow.Author.Needs.{needs}
-use lib.ListN.{length-take}
 use Rattle.stdio.proofs.round_of.Statement.{statement}
 use Rattle.stdio.proofs.round_of.Tie as tie
 
-read-more-requires : tie.Need-read-more-requires
-read-more-requires c κs = search needs
+sub-turn-of : tie.Need-sub-turn-of
+sub-turn-of c = search needs
+
+part-turn-of-start : tie.Need-part-turn-of-start
+part-turn-of-start c = search needs
+
+part-turn-of-end : tie.Need-part-turn-of-end
+part-turn-of-end c = search needs
+
+turn-of-requires : tie.Need-turn-of-requires
+turn-of-requires c κs = ((c .before .before .before .before .before .before .pre) .0, ((c .before .before .before .before .before .before .pre) .1 .0, ((c .before .before .before .before .before .before .pre) .1 .1 .0, ((c .before .before .before .before .before .before .pre) .1 .1 .1 .0, ((c .before .before .before .before .before .before .pre) .1 .1 .1 .1 .1 .0, (c .before .before .before .before .before .before .pre) .1 .1 .1 .1 .1 .1 .1)))))
+
+add-from : tie.Need-add-from
+add-from c = omega (arith, (c .before .before .before .before .before .before .before .before .before .before .before .good .1 .1 .1 .1 .1 .1 .1 .1 .0 .0), used-to (now ((c .before .before .before .before .before .before .before .before .before .before .before .args) .input)) ((c .before .before .before .before .before .before .before .before .before .before .before .args) .state .from) ((c .before .before .before .before .before .before .before .before .before .before .before .args) .state .have) ((c .before .before .before .before .before .before .before .before .before .before .before .pre) .1 .1 .1 .1 .0) ((c .before .before .before .before .turn-of) .ensures), (c .before .before .before .before .before .before .before .before .before .before .before .pre) .1 .1 .1 .1 .0 .1)
+
+add-requires : tie.Need-add-requires
+add-requires c κs = search needs
+
+add-requires-2 : tie.Need-add-requires-2
+add-requires-2 c κs = search needs
+
+add-requires-3 : tie.Need-add-requires-3
+add-requires-3 c κs = search needs
 
 same-length : tie.Need-same-length
 same-length c = search needs
 
-returns : tie.Need-returns
-returns c = search needs
-
 same-length-2 : tie.Need-same-length-2
 same-length-2 c = search needs
 
-returns-2 : tie.Need-returns-2
-returns-2 c = search needs
+returns : tie.Need-returns
+returns c = ((used-to (now ((c .before .before .before .before .before .before .before .before .before .before .before .before .before .before .before .before .args) .input)) ((c .before .before .before .before .before .before .before .before .before .before .before .before .before .before .before .before .args) .state .from) ((c .before .before .before .before .before .before .before .before .before .before .before .before .before .before .before .before .args) .state .have) ((c .before .before .before .before .before .before .before .before .before .before .before .before .before .before .before .before .pre) .1 .1 .1 .1 .0) ((c .before .before .before .before .before .before .before .before .before .turn-of) .ensures), (c .before .before .before .before .before .before .before .before .before .before .before .before .before .before .before .before .pre) .1 .1 .1 .1 .0 .1), (c .before .before .before .before .before .before .before .before .before .turn-of) .ensures .alive)
 
-add-have : tie.Need-add-have
-add-have c = search needs
+enum-told : tie.Need-enum-told
+enum-told c = search needs
 
-slice-reshare-prefix-pass : tie.Need-slice-reshare-prefix-pass
-slice-reshare-prefix-pass c = search needs
+enum-told-2 : tie.Need-enum-told-2
+enum-told-2 c = search needs
 
-slice-aggregate-pass : tie.Need-slice-aggregate-pass
-slice-aggregate-pass c = simp length-take (omega (arith, (c .before .before .before .before .before .before .before .read-more .ensures), (c .before .before .before .before .before .before .before .read-more .kept .0)))
+refilled-requires : tie.Need-refilled-requires
+refilled-requires c κs = ((used-to (now ((c .before .before .before .before .before .before .before .before .before .before .before .before .before .before .before .before .before .before .before .args) .input)) ((c .before .before .before .before .before .before .before .before .before .before .before .before .before .before .before .before .before .before .before .args) .state .from) ((c .before .before .before .before .before .before .before .before .before .before .before .before .before .before .before .before .before .before .before .args) .state .have) ((c .before .before .before .before .before .before .before .before .before .before .before .before .before .before .before .before .before .before .before .pre) .1 .1 .1 .1 .0) ((c .before .before .before .before .before .before .before .before .before .before .before .before .turn-of) .ensures), (c .before .before .before .before .before .before .before .before .before .before .before .before .before .before .before .before .before .before .before .pre) .1 .1 .1 .1 .0 .1), (omega (arith, few-held (now ((c .before .before .before .before .before .before .before .before .before .before .before .before .before .before .before .before .before .before .before .args) .input)) ((c .before .before .before .before .before .before .before .before .before .before .before .before .before .before .before .before .before .before .before .args) .state .from) ((c .before .before .before .before .before .before .before .before .before .before .before .before .before .before .before .before .before .before .before .args) .state .have) ((c .before .before .before .before .before .before .before .before .before .before .before .before .before .before .before .before .before .before .before .pre) .1 .1 .1 .1 .0) ((c .before .before .before .before .before .before .before .before .before .before .before .before .turn-of) .ensures) ((c .before .enum-told2) .given .1), (c .before .before .before .before .before .before .before .before .before .before .before .before .before .before .before .before .before .before .before .pre) .1 .1 .1 .1 .1 .1 .0), (c .before .before .before .before .before .before .before .before .before .before .before .before .turn-of) .ensures .alive))
 
-pass-requires : tie.Need-pass-requires
-pass-requires c κs = ((c .before .before .before .before .before .before .before .before .before .before .before .before .pre .0), ((c .before .before .before .before .before .before .before .before .before .before .before .before .pre .1 .0), ((c .before .before .before .before .before .before .before .before .before .before .before .before .pre .1 .1 .0), (c .before .before .before .before .before .before .before .before .before .before .before .before .pre .1 .1 .1 .1))))
+enum-told-3 : tie.Need-enum-told-3
+enum-told-3 c = search needs
 
-move-down-requires : tie.Need-move-down-requires
-move-down-requires c κs = (omega (arith, (c .before .before .before .pass .ensures), length-take ((c .before .before .before .before .before .before .before .before .before .before .before .before .before .before .before .before .args .held) + (c .before .before .before .before .before .before .before .before .before .before .before .before .read-more .result .count)) ((c .before .before .before .before .before .before .before .before .before .before .before .before .read-more .last .0))), omega (arith, (c .before .before .before .before .before .before .before .before .before .before .before .before .read-more .ensures), (c .before .before .before .before .before .before .before .before .before .before .before .before .read-more .kept .0)))
+enum-told-4 : tie.Need-enum-told-4
+enum-told-4 c = search needs
 
-sub-t28 : tie.Need-sub-t28
-sub-t28 c = omega (arith, (c .before .before .before .before .before .before .before .pass .ensures), length-take ((c .before .before .before .before .before .before .before .before .before .before .before .before .before .before .before .before .before .before .before .before .args .held) + (c .before .before .before .before .before .before .before .before .before .before .before .before .before .before .before .before .read-more .result .count)) ((c .before .before .before .before .before .before .before .before .before .before .before .before .before .before .before .before .read-more .last .0)))
+enum-told-5 : tie.Need-enum-told-5
+enum-told-5 c = search needs
 
 same-length-3 : tie.Need-same-length-3
 same-length-3 c = search needs
@@ -46,11 +63,8 @@ same-length-3 c = search needs
 same-length-4 : tie.Need-same-length-4
 same-length-4 c = search needs
 
-returns-3 : tie.Need-returns-3
-returns-3 c = search needs
-
-sub-t30 : tie.Need-sub-t30
-sub-t30 c = omega (arith, (c .before .before .before .before .before .before .before .pass .ensures), length-take ((c .before .before .before .before .before .before .before .before .before .before .before .before .before .before .before .before .before .before .before .before .args .held) + (c .before .before .before .before .before .before .before .before .before .before .before .before .before .before .before .before .read-more .result .count)) ((c .before .before .before .before .before .before .before .before .before .before .before .before .before .before .before .before .read-more .last .0)))
+returns-2 : tie.Need-returns-2
+returns-2 c = ((used-to (now ((c .before .before .before .before .before .before .before .before .before .before .before .before .before .before .before .before .before .before .args) .input)) ((c .before .before .before .before .before .before .before .before .before .before .before .before .before .before .before .before .before .before .args) .state .from) ((c .before .before .before .before .before .before .before .before .before .before .before .before .before .before .before .before .before .before .args) .state .have) ((c .before .before .before .before .before .before .before .before .before .before .before .before .before .before .before .before .before .before .pre) .1 .1 .1 .1 .0) ((c .before .before .before .before .before .before .before .before .before .before .before .turn-of) .ensures), (c .before .before .before .before .before .before .before .before .before .before .before .before .before .before .before .before .before .before .pre) .1 .1 .1 .1 .0 .1), (c .before .before .before .before .before .before .before .before .before .before .before .turn-of) .ensures .alive)
 
 same-length-5 : tie.Need-same-length-5
 same-length-5 c = search needs
@@ -58,28 +72,69 @@ same-length-5 c = search needs
 same-length-6 : tie.Need-same-length-6
 same-length-6 c = search needs
 
+returns-3 : tie.Need-returns-3
+returns-3 c = search needs
+
+same-length-7 : tie.Need-same-length-7
+same-length-7 c = search needs
+
+same-length-8 : tie.Need-same-length-8
+same-length-8 c = search needs
+
 returns-4 : tie.Need-returns-4
-returns-4 c = search needs
+returns-4 c = ((used-to (now ((c .before .before .before .before .before .before .before .before .before .before .before .before .before .before .before .before .before .before .args) .input)) ((c .before .before .before .before .before .before .before .before .before .before .before .before .before .before .before .before .before .before .args) .state .from) ((c .before .before .before .before .before .before .before .before .before .before .before .before .before .before .before .before .before .before .args) .state .have) ((c .before .before .before .before .before .before .before .before .before .before .before .before .before .before .before .before .before .before .pre) .1 .1 .1 .1 .0) ((c .before .before .before .before .before .before .before .before .before .before .before .turn-of) .ensures), (c .before .before .before .before .before .before .before .before .before .before .before .before .before .before .before .before .before .before .pre) .1 .1 .1 .1 .0 .1), (c .before .before .before .before .before .before .before .before .before .before .before .turn-of) .ensures .alive)
+
+same-length-9 : tie.Need-same-length-9
+same-length-9 c = search needs
+
+same-length-10 : tie.Need-same-length-10
+same-length-10 c = search needs
+
+returns-5 : tie.Need-returns-5
+returns-5 c = ((used-to (now ((c .before .before .before .before .before .before .before .before .before .before .before .before .before .before .before .before .before .before .args) .input)) ((c .before .before .before .before .before .before .before .before .before .before .before .before .before .before .before .before .before .before .args) .state .from) ((c .before .before .before .before .before .before .before .before .before .before .before .before .before .before .before .before .before .before .args) .state .have) ((c .before .before .before .before .before .before .before .before .before .before .before .before .before .before .before .before .before .before .pre) .1 .1 .1 .1 .0) ((c .before .before .before .before .before .before .before .before .before .before .before .turn-of) .ensures), (c .before .before .before .before .before .before .before .before .before .before .before .before .before .before .before .before .before .before .pre) .1 .1 .1 .1 .0 .1), (c .before .before .before .before .before .before .before .before .before .before .before .turn-of) .ensures .alive)
+
+same-length-11 : tie.Need-same-length-11
+same-length-11 c = search needs
+
+same-length-12 : tie.Need-same-length-12
+same-length-12 c = search needs
+
+returns-6 : tie.Need-returns-6
+returns-6 c = ((used-to (now ((c .before .before .before .before .before .before .before .before .before .before .before .before .before .before .before .before .before .before .args) .input)) ((c .before .before .before .before .before .before .before .before .before .before .before .before .before .before .before .before .before .before .args) .state .from) ((c .before .before .before .before .before .before .before .before .before .before .before .before .before .before .before .before .before .before .args) .state .have) ((c .before .before .before .before .before .before .before .before .before .before .before .before .before .before .before .before .before .before .pre) .1 .1 .1 .1 .0) ((c .before .before .before .before .before .before .before .before .before .before .before .turn-of) .ensures), (c .before .before .before .before .before .before .before .before .before .before .before .before .before .before .before .before .before .before .pre) .1 .1 .1 .1 .0 .1), (c .before .before .before .before .before .before .before .before .before .before .before .turn-of) .ensures .alive)
 
 pub round-of-spec : {M : Type 1} → statement M
 round-of-spec =
     tie.close
     (tie.spec
-    read-more-requires
+    sub-turn-of
+    part-turn-of-start
+    part-turn-of-end
+    turn-of-requires
+    add-from
+    add-requires
+    add-requires-2
+    add-requires-3
     same-length
-    returns
     same-length-2
-    returns-2
-    add-have
-    slice-reshare-prefix-pass
-    slice-aggregate-pass
-    pass-requires
-    move-down-requires
-    sub-t28
+    returns
+    enum-told
+    enum-told-2
+    refilled-requires
+    enum-told-3
+    enum-told-4
+    enum-told-5
     same-length-3
     same-length-4
-    returns-3
-    sub-t30
+    returns-2
     same-length-5
     same-length-6
-    returns-4)
+    returns-3
+    same-length-7
+    same-length-8
+    returns-4
+    same-length-9
+    same-length-10
+    returns-5
+    same-length-11
+    same-length-12
+    returns-6)

@@ -1,19 +1,21 @@
 -- `stdio::run` is safe and ends. The loop's invariant: the buffers keep their length, and what is held lies within one.
--- Assumes nothing.
 use mathlib.Core.Path.{_≡_, refl, sym, _∙_}
 use Prim.Native.Nat.{_≤_}
 use native.Mathlib.Omega.{arith}
-use borrow.Author.Needs.{needs}
 use lib.ListN.{length}
+use Rattle.names.specs.Opcodes.{arms as armTable, opcodes}
+use Rattle.streams.specs.Stream.{Alive}
 use Rattle.stdio.proofs.run.Statement.{statement}
 use Rattle.stdio.proofs.run.Tie as tie
-use Rattle.names.specs.Opcodes.{arms as armTable, opcodes}
+use borrow.Author.Needs.{needs}
 
 abbrev Inv-loop : tie.InvT-loop
-Inv-loop mode name-letters name-starts register-letters register-starts arms input₀ text₀ stage₀ held₀ turns₀ input text stage held turns = (held ≤ 65536) × (length input ≡ 65536) × (length text ≡ 65536)
+Inv-loop mode asked name-letters name-starts register-letters register-starts label-letters label-starts arms input₀ text₀ state₀ turns₀ input text state turns =
+    ((state .from ≤ state .have) × (state .have ≤ 65536)) × (Alive (state .stage) × ((length input ≡ 65536) × (length text ≡ 65536)))
 
 abbrev μ-loop : tie.MeasureT-loop
-μ-loop mode name-letters name-starts register-letters register-starts arms input₀ text₀ stage₀ held₀ turns₀ input text stage held turns = turns
+μ-loop mode asked name-letters name-starts register-letters register-starts label-letters label-starts arms input₀ text₀ state₀ turns₀ input text state turns =
+    turns
 
 letters-requires : tie.Need-letters-requires Inv-loop μ-loop
 letters-requires c κs = search needs
@@ -27,6 +29,12 @@ letters-requires-2 c κs = search needs
 starts-requires-2 : tie.Need-starts-requires-2 Inv-loop μ-loop
 starts-requires-2 c κs = search needs
 
+letters-requires-3 : tie.Need-letters-requires-3 Inv-loop μ-loop
+letters-requires-3 c κs = search needs
+
+starts-requires-3 : tie.Need-starts-requires-3 Inv-loop μ-loop
+starts-requires-3 c κs = search needs
+
 large-buffer-requires : tie.Need-large-buffer-requires Inv-loop μ-loop
 large-buffer-requires c κs = search needs
 
@@ -34,26 +42,29 @@ large-buffer-requires-2 : tie.Need-large-buffer-requires-2 Inv-loop μ-loop
 large-buffer-requires-2 c κs = search needs
 
 loop-holds : tie.Need-loop-holds Inv-loop μ-loop
-loop-holds c = (omega arith, sym (c .before .large-buffer .ensures), sym (c .large-buffer2 .ensures))
+loop-holds c = ((omega arith, omega arith), (tt, (sym ((c .before .large-buffer) .ensures), sym ((c .large-buffer2) .ensures))))
 
 sub-turns : tie.Need-sub-turns Inv-loop μ-loop
 sub-turns c = omega arith
 
 slice-aggregate-round-of : tie.Need-slice-aggregate-round-of Inv-loop μ-loop
-slice-aggregate-round-of c = sym (c .before .before .before .before .before .before .before .loop .inv .1)
+slice-aggregate-round-of c = sym ((c .before .before .before .before .before .before .before .before .before .loop) .inv .1 .1 .0)
 
 slice-aggregate-round-of-2 : tie.Need-slice-aggregate-round-of-2 Inv-loop μ-loop
-slice-aggregate-round-of-2 c = sym (c .before .before .before .before .before .before .before .before .loop .inv .2)
+slice-aggregate-round-of-2 c = sym ((c .before .before .before .before .before .before .before .before .before .before .loop) .inv .1 .1 .1)
 
 round-of-requires : tie.Need-round-of-requires Inv-loop μ-loop
 unfolding armTable opcodes
 round-of-requires c κs = (
-  record { text = (c .before .before .before .before .before .before .before .before .before .before .before .before .before .before .letters .ensures); places = (c .before .before .before .before .before .before .before .before .before .before .before .before .before .starts .ensures) },
+  record { text = (c .before .before .before .before .before .before .before .before .before .before .before .before .before .before .before .before .before .before .letters) .ensures; places = (c .before .before .before .before .before .before .before .before .before .before .before .before .before .before .before .before .before .starts) .ensures },
   (
-    record { text = (c .before .before .before .before .before .before .before .before .before .before .before .before .letters2 .ensures); places = (c .before .before .before .before .before .before .before .before .before .before .before .starts2 .ensures) },
+    record { text = (c .before .before .before .before .before .before .before .before .before .before .before .before .before .before .before .before .letters2) .ensures; places = (c .before .before .before .before .before .before .before .before .before .before .before .before .before .before .before .starts2) .ensures },
     (
-      refl,
-      (omega (arith, (c .before .before .before .before .before .before .before .before .loop .inv .0), (c .before .before .before .before .before .before .before .before .loop .inv .1)), omega (arith, (c .before .before .before .before .before .before .before .before .loop .inv .2))),
+      record { text = (c .before .before .before .before .before .before .before .before .before .before .before .before .before .before .letters3) .ensures; places = (c .before .before .before .before .before .before .before .before .before .before .before .before .before .starts3) .ensures },
+      (
+        refl,
+        (((c .before .before .before .before .before .before .before .before .before .before .loop) .inv .0 .0, omega (arith, (c .before .before .before .before .before .before .before .before .before .before .loop) .inv .0 .1, (c .before .before .before .before .before .before .before .before .before .before .loop) .inv .1 .1 .0)), ((c .before .before .before .before .before .before .before .before .before .before .loop) .inv .1 .0, (omega (arith, (c .before .before .before .before .before .before .before .before .before .before .loop) .inv .1 .1 .0), omega (arith, (c .before .before .before .before .before .before .before .before .before .before .loop) .inv .1 .1 .1)))),
+      ),
     ),
   ),
 )
@@ -65,10 +76,10 @@ loop-less : tie.Need-loop-less Inv-loop μ-loop
 loop-less c = omega arith
 
 loop-again : tie.Need-loop-again Inv-loop μ-loop
-loop-again c = (omega (arith, (c .before .before .before .before .round-of .ensures), (c .before .before .before .before .before .before .before .before .before .before .before .before .before .loop .inv .1)), (c .before .before .before .before .round-of .kept .1 .1 .1 .1 .1 .1 .1 .0) ∙ (c .before .before .before .before .before .before .before .before .before .before .before .before .before .loop .inv .1), (c .before .before .before .before .round-of .kept .1 .1 .1 .1 .1 .1 .1 .1 .1 .0) ∙ (c .before .before .before .before .before .before .before .before .before .before .before .before .before .loop .inv .2))
+loop-again c = (((c .before .before .before .before .round-of) .ensures .0 .0, omega (arith, (c .before .before .before .before .round-of) .ensures .0 .1, (c .before .before .before .before .before .before .before .before .before .before .before .before .before .before .before .loop) .inv .1 .1 .0)), ((c .before .before .before .before .round-of) .ensures .1, ((c .before .before .before .before .round-of) .kept .1 .1 .1 .1 .1 .1 .1 .1 .0 ∙ (c .before .before .before .before .before .before .before .before .before .before .before .before .before .before .before .loop) .inv .1 .1 .0, (c .before .before .before .before .round-of) .kept .1 .1 .1 .1 .1 .1 .1 .1 .1 .1 .0 ∙ (c .before .before .before .before .before .before .before .before .before .before .before .before .before .before .before .loop) .inv .1 .1 .1)))
 
-finish-requires : tie.Need-finish-requires Inv-loop μ-loop
-finish-requires c κs = search needs
+report-requires : tie.Need-report-requires Inv-loop μ-loop
+report-requires c κs = (c .before .before .before .round-of) .ensures .1
 
 returns : tie.Need-returns Inv-loop μ-loop
 returns c = search needs
@@ -86,6 +97,8 @@ run-spec =
     starts-requires
     letters-requires-2
     starts-requires-2
+    letters-requires-3
+    starts-requires-3
     large-buffer-requires
     large-buffer-requires-2
     loop-holds
@@ -96,6 +109,6 @@ run-spec =
     enum-told
     loop-less
     loop-again
-    finish-requires
+    report-requires
     returns
     returns-2)

@@ -1,0 +1,3 @@
+-- Laws of the buffers of the programs.
+pub mod Moving
+pub mod Rounds

@@ -1,0 +1,3 @@
+-- Laws of a listing that arrives in parts, for the proofs here and in the crates above.
+pub mod Stepping
+pub mod Passing
