@@ -124,12 +124,6 @@ always = record { mmword = true; first = false; later = false }
 abbrev pub byRegisters : Instruction → (first later : Bool) → LabelRule
 byRegisters i first later = record { mmword = hasVector i; first = first; later = later }
 
--- the same by the arm, as the code asks for it: 6 is `fword` in operand 0 of JMPF and CALLF and after operand 0 of LDS, LES, LFS,
--- LGS, and ds is not shown after operand 0 of MOVS
-unfoldable pub generalBy : Arm → (mmword : Bool) → ℕ → Plan
-generalBy arm mmword size =
-    spread (generalLabel mmword (isOneOf arm (Jmpf ∷ Callf ∷ [])) size) (generalLabel mmword (isArm arm Lds) size) (cond (isArm arm Movs) UnlessDs Own)
-
 -- the general path of an opcode that it does not name
 abbrev pub generally : Instruction → Plan
 generally i = general (byRegisters i false false) (i .size)
@@ -137,6 +131,12 @@ generally i = general (byRegisters i false false) (i .size)
 -- MOVS: the label of the general path; ds is shown in operand 0 alone
 abbrev pub movsLabel : Instruction → Label
 movsLabel i = generalLabel (hasVector i) false (i .size)
+
+-- the general path by the arm, as the code makes it: 6 is `fword` in operand 0 of JMPF and CALLF and after operand 0 of LDS, LES, LFS,
+-- LGS, and ds is not shown after operand 0 of MOVS
+unfoldable pub generalBy : Arm → (mmword : Bool) → ℕ → Plan
+generalBy arm mmword size =
+    spread (generalLabel mmword (isOneOf arm (Jmpf ∷ Callf ∷ [])) size) (generalLabel mmword (isArm arm Lds) size) (cond (isArm arm Movs) UnlessDs Own)
 
 -- the FADD arm: memory as operand 1 decides first; else `st` stands for st(0) in operand 0 where that is of kind 1, or in operand 1
 abbrev pub fadd : ℕ → Operand → Operand → Plan
