@@ -8,6 +8,7 @@ use lib.IntN.{negsuc}
 use lib.ListN.{replicate}
 use Rattle.operands.specs.declared.Instruction.{Instruction}
 use Rattle.operands.specs.declared.Operand.the-variants.{Absent, Register, Imm, Absolute16, Memory}
+use Rattle.frames.specs.Numbers.{signed}
 use Rattle.bodies.specs.Refusals.{lengthRefused, segmentKept, firstKept, secondKept, scaleKept, operandRefused, fieldRefused}
 use Rattle.bodies.specs.Decoding.{immediate, dispIn, addressOf, operandOf, operandAt, instructionOf}
 
@@ -68,7 +69,7 @@ four : decoded mixed ≡ Record record {
     displaced = true;
   };
 }
-unfolding lengthRefused fieldRefused operandRefused segmentKept firstKept secondKept scaleKept instructionOf operandAt operandOf immediate dispIn addressOf
+unfolding lengthRefused fieldRefused operandRefused segmentKept firstKept secondKept scaleKept instructionOf operandAt operandOf immediate dispIn addressOf signed
 four = refl
 
 -- 13 bytes; an operand too few, or too many; count 5 and one byte too few

@@ -4,7 +4,8 @@ use mathlib.Core.Bool.{Bool, true, false, cond, _||_}
 use mathlib.Core.List.{List}
 use Prim.Native.Nat.{ℕ, suc, _+_, _-_, _%_, _^_}
 use lib.Dec.{eqb, leb, ltb}
-use lib.IntN.{ℤ, pos, negsuc}
+use lib.IntN.{ℤ, pos}
+use Rattle.frames.specs.Numbers.{signed}
 use Rattle.operands.specs.declared.Address.{Address}
 use Rattle.operands.specs.declared.Operand.{Operand}
 use Rattle.operands.specs.declared.Operand.the-variants.{Absent, Register, Imm, Absolute16, Absolute32, Memory}
@@ -12,10 +13,6 @@ use Rattle.operands.specs.declared.Instruction.{Instruction}
 use Rattle.operands.specs.Kinds.{registerM, i8, i16, u8, u16, u32, absolute16, absolute32, inBaseDisp, inIndexDisp, inBothDisp}
 use Rattle.frames.specs.Numbers.{byte}
 use Rattle.bodies.specs.Body.{opcodeOf, flagsOf, lengthOf, sizeOf, immOf, dispOf, countOf, placeOf}
-
--- "disp, signed": 32 bits in two's complement
-abbrev pub signed : ℕ → ℤ
-signed bits = cond (ltb bits (2 ^ 31)) (pos bits) (negsuc (2 ^ 32 - suc bits))
 
 -- "Signed immediates are first extended to 32 bits and read as unsigned": `low` has its sign from `top` up
 abbrev pub extended : ℕ → ℕ → ℕ
@@ -33,9 +30,9 @@ immediate kind imm =
 abbrev pub isDisplaced : ℕ → Bool
 isDisplaced kind = eqb kind inBaseDisp || eqb kind inIndexDisp || eqb kind inBothDisp
 
--- the displacement of a kind that has one, else 0
+-- "disp, signed": the displacement of a kind that has one, else 0
 unfoldable pub dispIn : ℕ → ℕ → ℤ
-dispIn kind disp = cond (isDisplaced kind) (signed disp) (pos 0)
+dispIn kind disp = cond (isDisplaced kind) (signed 32 disp) (pos 0)
 
 -- "11 `[r]`, 12 `[r disp]`, 13 index and scale, 14 the same with disp, 15 base, index and scale, 16 the same with disp"; a part that
 -- the kind lacks is false and 0

@@ -1,10 +1,11 @@
 // The low bits of imm and disp that a kind takes.
 ghost use mathlib.Core.Path.{_≡_};
-ghost use Rattle.bodies.specs.Decoding.{signed, immediate, isDisplaced, dispIn};
+ghost use Rattle.frames.specs.Numbers.{signed};
+ghost use Rattle.bodies.specs.Decoding.{immediate, isDisplaced, dispIn};
 
 // A cast may lose no bits, so a negative number is the complement of one that fits.
 pub fn signed_of(bits: u32) -> i32
-    ensures { λ r. ⌜ r ≡ signed bits ⌝ }
+    ensures { λ r. ⌜ r ≡ signed 32 bits ⌝ }
 {
     if bits < 0x8000_0000 {
         bits as i32

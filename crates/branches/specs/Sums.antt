@@ -2,17 +2,14 @@
 -- Assumes nothing.
 use mathlib.Core.Bool.{Bool, true, false, cond, _&&_}
 use Prim.Native.Nat.{ℕ, suc, _+_, _-_, _%_, _^_}
-use lib.Dec.{eqb, leb, ltb}
-use lib.IntN.{ℤ, pos, negsuc, natAbs, subℕ, _+ℤ_}
+use lib.Dec.{eqb, leb}
+use lib.IntN.{ℤ, pos, negsuc, natAbs, _+ℤ_}
+unfoldable pub use Rattle.frames.specs.Numbers.{signed}
 use Rattle.operands.specs.Kinds.{i8, i32}
 use Rattle.operands.specs.declared.Shown.{Shown}
 use Rattle.operands.specs.declared.Shown.the-variants.{Branch}
 use Rattle.branches.specs.declared.Mode.{Mode}
 use Rattle.branches.specs.declared.Mode.the-variants.{Crate, Straight}
-
--- the lowest `w` bits of a number, read as signed: from half of 2 ^ w on they stand for 2 ^ w less
-unfoldable pub signed : ℕ → ℕ → ℤ
-signed w n = cond (ltb (n % 2 ^ w) (2 ^ (w - 1))) (pos (n % 2 ^ w)) (subℕ (n % 2 ^ w) (2 ^ w))
 
 -- Distance plus length of a kind 3 branch. "Mode 0 is the crate's: the sum wraps in the width of the distance", 8 bits here.
 -- "Mode 1, straight, is added: a kind 3 sum is kept whole".

@@ -18,13 +18,13 @@ cast-result-2 : tie.Need-cast-result-2
 cast-result-2 c = search needs
 
 returns : tie.Need-returns
-returns c = search needs
+returns c = let a = c .before .args in rw (signed-toZ (a .bits) (omega arith))
 
 returns-2 : tie.Need-returns-2
 returns-2 c =
     let a = c .before .args in
     let back : (2 ^ 32 - 1) - ((2 ^ 32 - 1) - a .bits) ≡ a .bits = omega arith in
-    rw (signed-toZ (a .bits), back)
+    rw (signed-toZ (a .bits) (omega arith), back)
 
 pub signed-of-spec : {M : Type 1} → statement M
 signed-of-spec = tie.close (tie.spec cast-result sub-result cast-result-2 returns returns-2)
