@@ -1,3 +1,5 @@
 -- Laws of a listing that arrives in parts, for the proofs here and in the crates above.
 pub mod Stepping
 pub mod Passing
+pub mod Following
+pub mod Streaming
