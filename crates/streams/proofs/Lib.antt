@@ -3,3 +3,4 @@ pub mod Stepping
 pub mod Passing
 pub mod Following
 pub mod Streaming
+pub mod Running

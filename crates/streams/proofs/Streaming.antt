@@ -219,7 +219,7 @@ step-sound asked Done held alive =
     record { keeps = λ known ys small. refl; ends = λ z. refl }
 
 -- the bytes after a place are bytes
-bytes-drop : (xs : List ℕ) (n : ℕ) → Bytes xs → Bytes (drop n xs)
+pub bytes-drop : (xs : List ℕ) (n : ℕ) → Bytes xs → Bytes (drop n xs)
 bytes-drop xs n small at = rw (getD-drop n xs at 0) (small (n + at))
 
 -- what is written from a stage on is what was still to be said
