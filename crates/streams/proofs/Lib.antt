@@ -4,3 +4,4 @@ pub mod Passing
 pub mod Following
 pub mod Streaming
 pub mod Running
+pub mod Counting

@@ -44,7 +44,7 @@ record Settled (asked : Asked) (stage : Stage) (held : List ℕ) : Type 0 where
   records : ℕ
   refused : ℕ
   taken : Steps asked stage held says now left records refused
-  alive : Alive now
+  pub alive : Alive now
   unused : stepped asked now left .used ≡ 0
 
 settle : {asked : Asked} {stage : Stage} {held says : List ℕ} {now : Stage} {left : List ℕ} {records refused : ℕ} (k : ℕ) → length left ≤ k → Alive now → Steps asked stage held says now left records refused → Settled asked stage held
@@ -84,12 +84,12 @@ streams-exist asked stage held (bytes ∷ reads) alive =
     record { written = _; streams = steps-stream (s .taken) (read (rest .streams)) }
 
 -- what steps keep of what is still to be said, with more bytes to come
-record Carried (asked : Asked) (stage : Stage) (held says : List ℕ) (now : Stage) (left ys : List ℕ) : Type 0 where
-  said : remaining asked stage (held ++ ys) ≡ says ++ remaining asked now (left ++ ys)
-  small : Bytes (left ++ ys)
-  alive : Alive now
+pub record Carried (asked : Asked) (stage : Stage) (held says : List ℕ) (now : Stage) (left ys : List ℕ) : Type 0 where
+  pub said : remaining asked stage (held ++ ys) ≡ says ++ remaining asked now (left ++ ys)
+  pub small : Bytes (left ++ ys)
+  pub alive : Alive now
 
-carried : {asked : Asked} {stage : Stage} {held says : List ℕ} {now : Stage} {left : List ℕ} {records refused : ℕ} (ys : List ℕ) → Known asked → Alive stage → Bytes (held ++ ys) → Steps asked stage held says now left records refused → Carried asked stage held says now left ys
+pub carried : {asked : Asked} {stage : Stage} {held says : List ℕ} {now : Stage} {left : List ℕ} {records refused : ℕ} (ys : List ℕ) → Known asked → Alive stage → Bytes (held ++ ys) → Steps asked stage held says now left records refused → Carried asked stage held says now left ys
 carried ys known alive small no-step = record { said = refl; small = small; alive = alive }
 carried {asked} {stage} {held} ys known alive small (step-more {says = before} {now = now} {left = left} m) =
     let so-far = carried ys known alive small m in

@@ -51,19 +51,30 @@ long-refused asked body known long small =
     line-refused asked body (sym (long-answer asked body known long small)) (lit≤ tt)
 
 -- the frame in front is cut, or whole
-part-cut : (xs : List ℕ) → length xs < 2 + bodyLength xs → isWhole xs ≡ false
+pub part-cut : (xs : List ℕ) → length xs < 2 + bodyLength xs → isWhole xs ≡ false
 part-cut xs h = second (leb 2 (length xs)) (lt-leb (2 + bodyLength xs) (length xs) h)
   where
     second : (a : Bool) {b : Bool} → b ≡ false → (a && b) ≡ false
     second true e = e
     second false e = refl
 
-all-whole : (xs : List ℕ) → 2 + bodyLength xs ≤ length xs → isWhole xs ≡ true
+pub all-whole : (xs : List ℕ) → 2 + bodyLength xs ≤ length xs → isWhole xs ≡ true
 all-whole xs h = rw (le-leb 2 (length xs) (omega arith), le-leb (2 + bodyLength xs) (length xs) h)
 
 -- more bytes after the length do not change it
-length-stays : (xs ys : List ℕ) → 2 ≤ length xs → bodyLength (xs ++ ys) ≡ bodyLength xs
+pub length-stays : (xs ys : List ℕ) → 2 ≤ length xs → bodyLength (xs ++ ys) ≡ bodyLength xs
 length-stays xs ys h = rw (List·getD-append xs ys 0 0 (omega arith), List·getD-append xs ys 0 1 (omega arith))
+
+-- nor do more bytes after a whole frame change its body and what comes after it
+module _ (xs ys : List ℕ) (h : 2 + bodyLength xs ≤ length xs) where
+  pub body-stays : bodyOf (xs ++ ys) ≡ bodyOf xs
+  body-stays =
+      ap₂ (λ (k : ℕ) (zs : List ℕ). take k zs) (length-stays xs ys (omega arith)) (drop-append-le 2 xs ys (omega arith))
+      ∙ take-append-le (bodyLength xs) (drop 2 xs) ys (omega (arith, length-drop 2 xs))
+
+  pub after-stays : drop (2 + bodyLength (xs ++ ys)) (xs ++ ys) ≡ drop (2 + bodyLength xs) xs ++ ys
+  after-stays =
+      ap (λ (k : ℕ). drop (2 + k) (xs ++ ys)) (length-stays xs ys (omega arith)) ∙ drop-append-le (2 + bodyLength xs) xs ys h
 
 module _ (asked : Asked) (xs : List ℕ) where
   -- the lines of part of a frame
@@ -148,19 +159,10 @@ module _ (asked : Asked) (held : List ℕ) where
   unfolding remaining
   whole-sound h = sound-using (omega arith) keeps
     where
-      n : ℕ
-      n = bodyLength held
-
-      keeps : Known asked → (ys : List ℕ) → Bytes (held ++ ys) → linesOf asked (held ++ ys) ≡ recordLine asked (bodyOf held) ++ linesOf asked (drop (2 + n) held ++ ys)
+      keeps : Known asked → (ys : List ℕ) → Bytes (held ++ ys) → linesOf asked (held ++ ys) ≡ recordLine asked (bodyOf held) ++ linesOf asked (drop (2 + bodyLength held) held ++ ys)
       keeps known ys small =
-          let same = length-stays held ys (omega arith) in
-          let body : bodyOf (held ++ ys) ≡ bodyOf held =
-          ap₂ (λ (k : ℕ) (zs : List ℕ). take k zs) same (drop-append-le 2 held ys (omega arith))
-          ∙ take-append-le n (drop 2 held) ys (omega (arith, length-drop 2 held)) in
-          let after : drop (2 + bodyLength (held ++ ys)) (held ++ ys) ≡ drop (2 + n) held ++ ys =
-          ap (λ (k : ℕ). drop (2 + k) (held ++ ys)) same ∙ drop-append-le (2 + n) held ys h in
-          lines-whole asked (held ++ ys) (omega (arith, length-append held ys))
-          ∙ ap₂ (λ (b zs : List ℕ). recordLine asked b ++ linesOf asked zs) body after
+          lines-whole asked (held ++ ys) (omega (arith, length-append held ys, length-stays held ys (omega arith)))
+          ∙ ap₂ (λ (b zs : List ℕ). recordLine asked b ++ linesOf asked zs) (body-stays held ys h) (after-stays held ys h)
 
   frame-sound : Sound asked Frames held (frameStep asked held)
   frame-sound =
@@ -178,7 +180,7 @@ module _ (asked : Asked) (held : List ℕ) where
       S = Sound asked Frames held
 
 -- the same bytes on both sides of a test
-ltb-shift : (a b c : ℕ) → ltb (a + b) (a + c) ≡ ltb b c
+pub ltb-shift : (a b c : ℕ) → ltb (a + b) (a + c) ≡ ltb b c
 ltb-shift a b c = go (ltb b c) refl
   where
     go : (t : Bool) → ltb b c ≡ t → ltb (a + b) (a + c) ≡ t
