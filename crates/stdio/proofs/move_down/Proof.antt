@@ -16,7 +16,7 @@ loop-holds : tie.Need-loop-holds Inv-loop μ-loop
 loop-holds c = moving-start (now ((c .args) .input)) ((c .args) .from) ((c .args) .have) ((c .pre) .0) ((c .pre) .1)
 
 slice-read-input : tie.Need-slice-read-input Inv-loop μ-loop
-slice-read-input c = omega (arith, (c .before .before .loop) .inv .within, (c .before .before .loop) .inv .kept)
+slice-read-input c = omega (arith, (c .before .before .loop) .inv .after-from, (c .before .before .loop) .inv .within, (c .before .before .loop) .inv .kept)
 
 sub-input : tie.Need-sub-input Inv-loop μ-loop
 sub-input c = omega (arith, (c .before .before .loop) .inv .after-from)
