@@ -15,4 +15,6 @@ pub mod Exactly
 pub mod Counterexample
 pub mod Records
 pub mod OneByOne
+pub mod Listings
+pub mod Streams
 pub mod Readings
