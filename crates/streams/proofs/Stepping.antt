@@ -24,22 +24,12 @@ use Rattle.records.specs.declared.Asked.{Asked}
 use Rattle.records.specs.Records.{refusals, recordText}
 use Rattle.records.specs.Lines.{recordLine, textOf}
 use Rattle.records.specs.Judged.{Puts}
-use Rattle.records.proofs.Texts.{text-short, line-refused, line-accepted}
+use Rattle.records.proofs.RecordLines.{record-line-short}
 use Rattle.listings.specs.Lines.{versionLine}
 use Rattle.streams.specs.Stream.{Taken, taken, ended, refusedBy, versionStep, frameStep, skipStep, stepped, Alive, Took}
 use Rattle.streams.specs.declared.Step.{Step}
 use Rattle.streams.specs.declared.Stage.{Stage}
 use Rattle.streams.specs.declared.Stage.the-variants.{Version, Frames, Skip, Done}
-
--- no record's line exceeds the longest and its newline
-pub record-line-short : (asked : Asked) (body : List ℕ) → length (recordLine asked body) ≤ longestLine + 1
-record-line-short asked body = go (none-or-some (answerOf (refusals asked body)))
-  where
-    go : (answerOf (refusals asked body) ≡ 0) ⊎ (0 < answerOf (refusals asked body)) → length (recordLine asked body) ≤ longestLine + 1
-    go (inl e) =
-        rw (line-accepted asked body e) (omega (arith, text-short asked body, length-append (recordText asked body) newline))
-    go (inr some) =
-        rw (line-refused asked body refl some) (omega (arith, refused-most (answerOf (refusals asked body))))
 
 pub listed-short : (asked : Asked) (body : List ℕ) → length (textOf false asked body) ≤ longestLine + 1
 unfolding textOf
