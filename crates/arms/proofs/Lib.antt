@@ -3,7 +3,7 @@ pub mod Said
 pub mod Mmword
 pub mod ByArm
 pub mod GeneralPath
-pub mod Operands
+pub mod Vectors
 pub mod Labelled
 pub mod MissingSizes
 pub mod Lacking

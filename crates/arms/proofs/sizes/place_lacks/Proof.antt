@@ -1,7 +1,7 @@
 -- `arms::sizes::place_lacks` meets its contract: at each return, what was called ensures and what was tested give the definition's case.
 -- Assumes nothing.
 use borrow.Author.Tests.{eq-eqb, ne-eqb}
-use Rattle.arms.proofs.Operands.{operand-in}
+use Rattle.bodies.proofs.Counted.{operand-in}
 use borrow.Author.Needs.{needs}
 use Rattle.arms.proofs.sizes.place_lacks.Statement.{statement}
 use Rattle.arms.proofs.sizes.place_lacks.Tie as tie

@@ -1,6 +1,6 @@
 -- `arms::tests::is_vector_at` meets its contract: the register byte says it.
 -- Assumes nothing.
-use Rattle.arms.proofs.Operands.{vector-by-byte}
+use Rattle.arms.proofs.Vectors.{vector-by-byte}
 use borrow.Author.Needs.{needs}
 use Rattle.arms.proofs.tests.is_vector_at.Statement.{statement}
 use Rattle.arms.proofs.tests.is_vector_at.Tie as tie
