@@ -95,6 +95,7 @@ fn time_program(label: &str, command: &str, listing: &[u8], text: &[u8], input: 
         let status = Command::new(command)
             .stdin(File::open(input).expect("the listing is there"))
             .stdout(Stdio::null())
+            .stderr(Stdio::null())
             .status()
             .expect("the program starts");
         assert!(status.success(), "{command} ends with {status}");

@@ -22,7 +22,7 @@ pub(crate) struct Found {
     pub(crate) at: Option<(Arc<Batch>, usize)>,
 }
 
-/// What the programs are given behind the last frame, and what they have to say to it.
+/// What the programs are given after the last frame, and what they have to say to it.
 const CUT: (&[u8], &[u8]) = (&[0, 20, 1, 2, 3], b"; cut\n");
 
 impl Program {
@@ -30,10 +30,12 @@ impl Program {
         let mut child = Command::new(command)
             .stdin(Stdio::piped())
             .stdout(Stdio::piped())
+            .stderr(Stdio::piped())
             .spawn()
             .unwrap_or_else(|why| panic!("{command} does not start: {why}"));
         let input = child.stdin.take().expect("piped");
         let mut output = child.stdout.take().expect("piped");
+        let mut said = child.stderr.take().expect("piped");
         let (feed, frames) = sync_channel::<Arc<Batch>>(4);
         let (told, lines) = sync_channel::<Arc<Batch>>(64);
         let writer = std::thread::spawn(move || write(input, frames, told));
@@ -42,8 +44,17 @@ impl Program {
             let outcome = read(&mut output, lines, mode, &name);
             // lets a program go that still has lines to write
             drop(output);
+            let mut verdict = String::new();
+            let _ = said.read_to_string(&mut verdict);
             let status = child.wait();
-            outcome?;
+            let records = outcome?;
+            // the last line on standard error says what came of the run
+            let last = verdict.lines().last().unwrap_or_default();
+            let counted = last.starts_with(&format!("list: {records} records, "));
+            if !counted || !last.contains(" refused; cut at byte ") {
+                let expected = format!("list: {records} records, .. refused; cut at byte ..");
+                return Err(Found { difference: differs(&name, &expected, last), at: None });
+            }
             match status {
                 Ok(status) if status.success() => Ok(()),
                 other => Err(Found {
@@ -86,8 +97,9 @@ fn read(
     lines: Receiver<Arc<Batch>>,
     mode: usize,
     name: &str,
-) -> Result<(), Found> {
+) -> Result<usize, Found> {
     let mut found = Vec::new();
+    let mut records = 0;
     for batch in lines {
         let expected = batch.text(mode);
         found.resize(expected.len(), 0);
@@ -106,6 +118,7 @@ fn read(
             difference.body = Some(batch.body(at).to_vec());
             return Err(Found { difference, at: Some((batch, at)) });
         }
+        records += expected.iter().filter(|&&byte| byte == b'\n').count();
     }
     let mut tail = Vec::new();
     let _ = output.read_to_end(&mut tail);
@@ -114,7 +127,7 @@ fn read(
         let difference = differs(&format!("{name}, end of its listing"), "\"; cut\\n\"", &format!("{shown:?}"));
         return Err(Found { difference, at: None });
     }
-    Ok(())
+    Ok(records)
 }
 
 fn line_start(text: &[u8], byte: usize) -> usize {
@@ -142,6 +155,7 @@ pub fn run_program(command: &str, listing: &[u8]) -> Vec<u8> {
     let mut child = Command::new(command)
         .stdin(Stdio::piped())
         .stdout(Stdio::piped())
+        .stderr(Stdio::null())
         .spawn()
         .unwrap_or_else(|why| panic!("{command} does not start: {why}"));
     let mut input = child.stdin.take().expect("piped");
