@@ -15,7 +15,7 @@ pub record Moving (before : List ℕ) (from have : ℕ) (now : List ℕ) (i : �
   pub within : have ≤ length before
   pub kept : length now ≡ length before
   pub front : take (i - from) now ≡ take (i - from) (drop from before)
-  pub behind : drop i now ≡ drop i before
+  pub to-come : drop i now ≡ drop i before
 
 pub moving-start : (before : List ℕ) (from have : ℕ) → from ≤ have → have ≤ length before → Moving before from have before from
 moving-start before from have h l =
@@ -25,7 +25,7 @@ moving-start before from have h l =
       within = l;
       kept = refl;
       front = ap (λ (n : ℕ). take n before) none ∙ sym (ap (λ (n : ℕ). take n (drop from before)) none);
-      behind = refl;
+      to-come = refl;
     }
   where
     none : from - from ≡ 0
@@ -38,7 +38,7 @@ module _ {before : List ℕ} {from have : ℕ} {now : List ℕ} {i : ℕ} (m : M
       let here : getD now i 0 ≡ getD before i 0 =
       ap (λ (k : ℕ). getD now k 0) (sym (add-zero i))
       ∙ sym (getD-drop i now 0 0)
-      ∙ ap (λ (zs : List ℕ). getD zs 0 0) (m .behind)
+      ∙ ap (λ (zs : List ℕ). getD zs 0 0) (m .to-come)
       ∙ getD-drop i before 0 0
       ∙ ap (λ (k : ℕ). getD before k 0) (add-zero i) in
       let same : from + (i - from) ≡ i = omega (arith, m .after-from) in
@@ -61,10 +61,10 @@ module _ {before : List ℕ} {from have : ℕ} {now : List ℕ} {i : ℕ} (m : M
             ∙ ap₂ (λ (zs : List ℕ) (b : ℕ). zs ++ (b ∷ [])) (m .front) next-byte
             ∙ sym (take-suc (drop from before) at 0 stood)
             ∙ ap (λ (n : ℕ). take n (drop from before)) (sym next);
-        behind =
+        to-come =
             drop-set-lt (i + 1) now at (getD now i 0) (omega (arith, m .after-from))
             ∙ sym (drop-drop 1 i now)
-            ∙ ap (drop 1) (m .behind)
+            ∙ ap (drop 1) (m .to-come)
             ∙ drop-drop 1 i before;
       }
 

@@ -161,6 +161,8 @@ fn refilled(stage: Stage, from: usize, have: usize, tally: Tally, input: &mut [u
     requires { ⌜ Alive stage ⌝ }
     ensures { λ r. ⌜ (r .from ≤ r .have) × (r .have ≤ length (now (input .entry))) ⌝ }
     ensures { λ r. ⌜ Alive (r .stage) ⌝ }
+    ensures { λ r. ⌜ (r .from ≡ 0) × (have - from ≤ r .have) ⌝ }
+    ensures { λ _. ⌜ take (have - from) (now (input .exit)) ≡ drop from (take have (now (input .entry))) ⌝ }
 {
     move_down(input, from, have);
     let held = have - from;

@@ -5,3 +5,4 @@ pub mod Streaming
 pub mod Running
 pub mod Counting
 pub mod Totals
+pub mod Ending

@@ -142,7 +142,7 @@ module _ {asked : Asked} {stage : Stage} {held : List ℕ} {ended : Bool} {r : P
     goes-on : {written : List ℕ} → take (r .out) after ≡ p .says → written ≡ remaining asked (r .stage) (drop (r .used) held ++ ys) → take (r .out) after ++ written ≡ remaining asked stage (held ++ ys)
     goes-on says e = rw (says, e) (sym (passed-on .said))
 
-run-from : {asked : Asked} {ended : Bool} {stage : Stage} {held : List ℕ} {reads : List (List ℕ)} {written : List ℕ} {records refused : ℕ} {last : Next} → Known asked → Alive stage → (ended ≡ true → reads ≡ []) → Bytes (held ++ join reads) → Runs asked ended stage held reads written records refused last → written ≡ remaining asked stage (held ++ join reads)
+run-from : {asked : Asked} {ended : Bool} {stage : Stage} {held : List ℕ} {reads : List (List ℕ)} {written : List ℕ} {records refused used : ℕ} {final : Stage} {last : Next} → Known asked → Alive stage → (ended ≡ true → reads ≡ []) → Bytes (held ++ join reads) → Runs asked ended stage held reads written records refused used final last → written ≡ remaining asked stage (held ++ join reads)
 unfolding lastLine
 run-from {reads = reads} known alive none small (run-full p e s) =
     let c = passed-on p (join reads) known alive small in
@@ -164,6 +164,6 @@ run-from {asked} {ended} {stage} {held} {reads} known alive none small (stop {r 
     said (rests f) = last-said asked ended (r .stage) (drop (r .used) held) reads (p .alive) none not-read f
 
 -- For every run, over every sequence of reads, what is handed out is the definition's text of the whole.
-pub run-text : (asked : Asked) → Known asked → {reads : List (List ℕ)} {written : List ℕ} {records refused : ℕ} {last : Next} → Bytes (join reads) → Runs asked false Version [] reads written records refused last → written ≡ listingText asked (join reads)
+pub run-text : (asked : Asked) → Known asked → {reads : List (List ℕ)} {written : List ℕ} {records refused used : ℕ} {final : Stage} {last : Next} → Bytes (join reads) → Runs asked false Version [] reads written records refused used final last → written ≡ listingText asked (join reads)
 unfolding remaining
 run-text asked known small s = run-from known tt (λ z. absurd (let o : _≡_ {A = ℕ} 0 1 = cc in omega arith)) small s

@@ -72,7 +72,7 @@ counted-as : {asked : Asked} {stage : Stage} {xs ys : List ℕ} {records refused
 counted-as {asked} {stage} e c =
     record { frames = c .frames ∙ ap (framesFrom stage) e; refusals = c .refusals ∙ ap (refusedFrom asked stage) e }
 
-count-from : {asked : Asked} {ended : Bool} {stage : Stage} {held : List ℕ} {reads : List (List ℕ)} {written : List ℕ} {records refused : ℕ} {last : Next} → Known asked → Alive stage → (ended ≡ true → reads ≡ []) → Bytes (held ++ join reads) → Runs asked ended stage held reads written records refused last → Counted asked stage (held ++ join reads) records refused
+count-from : {asked : Asked} {ended : Bool} {stage : Stage} {held : List ℕ} {reads : List (List ℕ)} {written : List ℕ} {records refused used : ℕ} {final : Stage} {last : Next} → Known asked → Alive stage → (ended ≡ true → reads ≡ []) → Bytes (held ++ join reads) → Runs asked ended stage held reads written records refused used final last → Counted asked stage (held ++ join reads) records refused
 count-from {reads = reads} known alive none small (run-full p e s) =
     let c = carried (join reads) known alive small (p .steps) in
     count-on (tallied (join reads) known alive small (p .steps)) (count-from known (c .alive) none (c .small) s)
@@ -97,7 +97,7 @@ count-from {asked} {ended} {stage} {held} {reads} known alive none small (stop {
     at-rest (rests f) = f
 
 -- For every run, over every sequence of reads, the counts are those of the listing: its whole frames, and those that are refused.
-pub run-counts : (asked : Asked) → Known asked → {reads : List (List ℕ)} {written : List ℕ} {records refused : ℕ} {last : Next} → Bytes (join reads) → Runs asked false Version [] reads written records refused last → (records ≡ recordCount (join reads)) × (refused ≡ refusedCount asked (join reads))
+pub run-counts : (asked : Asked) → Known asked → {reads : List (List ℕ)} {written : List ℕ} {records refused used : ℕ} {final : Stage} {last : Next} → Bytes (join reads) → Runs asked false Version [] reads written records refused used final last → (records ≡ recordCount (join reads)) × (refused ≡ refusedCount asked (join reads))
 unfolding toCount
 run-counts asked known small s =
     let c = count-from known tt (λ z. absurd (let o : _≡_ {A = ℕ} 0 1 = cc in omega arith)) small s in

@@ -1,14 +1,17 @@
--- The whole frames of a listing, counted.
+-- The whole frames of a listing, counted, and how it ends.
 -- Assumes nothing.
 use mathlib.Core.Bool.{Bool, cond}
 use mathlib.Core.List.{List, [], _∷_}
 use Prim.Native.Nat.{ℕ, zero, suc, _+_}
+use lib.Dec.{ltb}
 use lib.ListN.{length, drop}
 use Rattle.answers.specs.Refusals.{answerOf}
 use Rattle.frames.specs.Frames.{isWhole, bodyOf, frameSize, knownVersion}
 use Rattle.records.specs.declared.Asked.{Asked}
 use Rattle.records.specs.Records.{refusals}
 use Rattle.streams.specs.Stream.{refusedBy}
+use Rattle.streams.specs.declared.Next.{Next}
+use Rattle.streams.specs.declared.Next.the-variants.{Whole, Cut, Unknown}
 
 -- a number of each body, added up over at most k whole frames, one after the other
 unfoldable pub sumWithin : (List ℕ → ℕ) → ℕ → List ℕ → ℕ
@@ -30,3 +33,28 @@ recordCount = listingSum (λ (body : List ℕ). 1)
 
 abbrev pub refusedCount : Asked → List ℕ → ℕ
 refusedCount asked = listingSum (λ (body : List ℕ). refusedBy (answerOf (refusals asked body)))
+
+-- how many bytes are left after the whole frames, of at most k
+unfoldable pub tailWithin : ℕ → List ℕ → ℕ
+tailWithin zero xs = length xs
+tailWithin (suc k) xs = cond (isWhole xs) (tailWithin k (drop (frameSize xs) xs)) (length xs)
+
+unfoldable pub tailOf : List ℕ → ℕ
+tailOf xs = tailWithin (length xs) xs
+
+-- how a listing ends: whole, cut or of an unknown version; and how many bytes of a frame that is cut are there
+pub record Ending : Type 0 where
+  pub next : Next
+  pub tail : ℕ
+
+abbrev pub ending : Next → ℕ → Ending
+ending next tail = record { next = next; tail = tail }
+
+-- of frames: cut where bytes are left after the whole ones
+unfoldable pub framesEnd : List ℕ → Ending
+framesEnd xs = ending (cond (ltb 0 (tailOf xs)) Cut Whole) (tailOf xs)
+
+-- of a listing: "an empty listing too" is cut
+unfoldable pub listingEnd : List ℕ → Ending
+listingEnd [] = ending Cut 0
+listingEnd (version ∷ xs) = cond (knownVersion version) (framesEnd xs) (ending Unknown 0)

@@ -1,4 +1,5 @@
 -- `stdio::read_more` meets its contract: what comes lies within the buffer, after the bytes that are held.
+-- Assumes nothing.
 use Prim.Native.Nat.{_-_}
 use native.Mathlib.Omega.{arith}
 use borrow.Rule.Slice.PartMut.{take-put}
@@ -24,7 +25,7 @@ same-length : tie.Need-same-length
 same-length c = search needs
 
 returns : tie.Need-returns
-returns c = (omega arith, take-put ((c .before .before .before .before .before .before .args) .held) (length (now ((c .before .before .before .before .before .before .args) .input)) - (c .before .before .before .before .before .before .args) .held) (now ((c .before .before .before .before .before .before .args) .input)) ((c .before .before .before .read) .last .1 .0) (omega (arith, (c .before .before .before .before .before .before .pre))))
+returns c = (omega arith, take-put (c .before .before .before .before .before .before .args .held) (length (now (c .before .before .before .before .before .before .args .input)) - (c .before .before .before .before .before .before .args) .held) (now (c .before .before .before .before .before .before .args .input)) (c .before .before .before .read .last .1 .0) (omega (arith, (c .before .before .before .before .before .before .pre))))
 
 sub-count : tie.Need-sub-count
 sub-count c = search needs
@@ -42,7 +43,7 @@ same-length-2 : tie.Need-same-length-2
 same-length-2 c = search needs
 
 returns-2 : tie.Need-returns-2
-returns-2 c = (search needs, take-put ((c .before .before .before .before .before .before .before .before .before .args) .held) (length (now ((c .before .before .before .before .before .before .before .before .before .args) .input)) - (c .before .before .before .before .before .before .before .before .before .args) .held) (now ((c .before .before .before .before .before .before .before .before .before .args) .input)) ((c .before .before .before .before .before .before .read) .last .1 .0) (omega (arith, (c .before .before .before .before .before .before .before .before .before .pre))))
+returns-2 c = (search needs, take-put (c .before .before .before .before .before .before .before .before .before .args .held) (length (now (c .before .before .before .before .before .before .before .before .before .args .input)) - (c .before .before .before .before .before .before .before .before .before .args) .held) (now (c .before .before .before .before .before .before .before .before .before .args .input)) (c .before .before .before .before .before .before .read .last .1 .0) (omega (arith, (c .before .before .before .before .before .before .before .before .before .pre))))
 
 pub read-more-spec : {M : Type 1} → statement M
 read-more-spec =

@@ -1,4 +1,5 @@
 -- `stdio::round_of` meets its contract: what is held lies within what was read, and is few bytes where more is to be read.
+-- Assumes nothing.
 use native.Mathlib.Omega.{arith}
 use denote.Ref.{now}
 use Rattle.stdio.proofs.Rounds.{used-to, few-held}
@@ -19,7 +20,7 @@ turn-of-requires : tie.Need-turn-of-requires
 turn-of-requires c κs = ((c .before .before .before .before .before .before .pre) .0, ((c .before .before .before .before .before .before .pre) .1 .0, ((c .before .before .before .before .before .before .pre) .1 .1 .0, ((c .before .before .before .before .before .before .pre) .1 .1 .1 .0, ((c .before .before .before .before .before .before .pre) .1 .1 .1 .1 .1 .0, (c .before .before .before .before .before .before .pre) .1 .1 .1 .1 .1 .1 .1)))))
 
 add-from : tie.Need-add-from
-add-from c = omega (arith, (c .before .before .before .before .before .before .before .before .before .before .before .good .1 .1 .1 .1 .1 .1 .1 .1 .0 .0), used-to (now ((c .before .before .before .before .before .before .before .before .before .before .before .args) .input)) ((c .before .before .before .before .before .before .before .before .before .before .before .args) .state .from) ((c .before .before .before .before .before .before .before .before .before .before .before .args) .state .have) ((c .before .before .before .before .before .before .before .before .before .before .before .pre) .1 .1 .1 .1 .0) ((c .before .before .before .before .turn-of) .ensures), (c .before .before .before .before .before .before .before .before .before .before .before .pre) .1 .1 .1 .1 .0 .1)
+add-from c = omega (arith, (c .before .before .before .before .before .before .before .before .before .before .before .good .1 .1 .1 .1 .1 .1 .1 .1 .0 .0), used-to (now (c .before .before .before .before .before .before .before .before .before .before .before .args .input)) (c .before .before .before .before .before .before .before .before .before .before .before .args .state .from) (c .before .before .before .before .before .before .before .before .before .before .before .args .state .have) (c .before .before .before .before .before .before .before .before .before .before .before .pre .1 .1 .1 .1 .0) (c .before .before .before .before .turn-of .ensures), (c .before .before .before .before .before .before .before .before .before .before .before .pre) .1 .1 .1 .1 .0 .1)
 
 add-requires : tie.Need-add-requires
 add-requires c κs = search needs
@@ -37,7 +38,7 @@ same-length-2 : tie.Need-same-length-2
 same-length-2 c = search needs
 
 returns : tie.Need-returns
-returns c = ((used-to (now ((c .before .before .before .before .before .before .before .before .before .before .before .before .before .before .before .before .args) .input)) ((c .before .before .before .before .before .before .before .before .before .before .before .before .before .before .before .before .args) .state .from) ((c .before .before .before .before .before .before .before .before .before .before .before .before .before .before .before .before .args) .state .have) ((c .before .before .before .before .before .before .before .before .before .before .before .before .before .before .before .before .pre) .1 .1 .1 .1 .0) ((c .before .before .before .before .before .before .before .before .before .turn-of) .ensures), (c .before .before .before .before .before .before .before .before .before .before .before .before .before .before .before .before .pre) .1 .1 .1 .1 .0 .1), (c .before .before .before .before .before .before .before .before .before .turn-of) .ensures .alive)
+returns c = ((used-to (now (c .before .before .before .before .before .before .before .before .before .before .before .before .before .before .before .before .args .input)) (c .before .before .before .before .before .before .before .before .before .before .before .before .before .before .before .before .args .state .from) (c .before .before .before .before .before .before .before .before .before .before .before .before .before .before .before .before .args .state .have) (c .before .before .before .before .before .before .before .before .before .before .before .before .before .before .before .before .pre .1 .1 .1 .1 .0) (c .before .before .before .before .before .before .before .before .before .turn-of .ensures), (c .before .before .before .before .before .before .before .before .before .before .before .before .before .before .before .before .pre) .1 .1 .1 .1 .0 .1), (c .before .before .before .before .before .before .before .before .before .turn-of) .ensures .alive)
 
 enum-told : tie.Need-enum-told
 enum-told c = search needs
@@ -46,7 +47,7 @@ enum-told-2 : tie.Need-enum-told-2
 enum-told-2 c = search needs
 
 refilled-requires : tie.Need-refilled-requires
-refilled-requires c κs = ((used-to (now ((c .before .before .before .before .before .before .before .before .before .before .before .before .before .before .before .before .before .before .before .args) .input)) ((c .before .before .before .before .before .before .before .before .before .before .before .before .before .before .before .before .before .before .before .args) .state .from) ((c .before .before .before .before .before .before .before .before .before .before .before .before .before .before .before .before .before .before .before .args) .state .have) ((c .before .before .before .before .before .before .before .before .before .before .before .before .before .before .before .before .before .before .before .pre) .1 .1 .1 .1 .0) ((c .before .before .before .before .before .before .before .before .before .before .before .before .turn-of) .ensures), (c .before .before .before .before .before .before .before .before .before .before .before .before .before .before .before .before .before .before .before .pre) .1 .1 .1 .1 .0 .1), (omega (arith, few-held (now ((c .before .before .before .before .before .before .before .before .before .before .before .before .before .before .before .before .before .before .before .args) .input)) ((c .before .before .before .before .before .before .before .before .before .before .before .before .before .before .before .before .before .before .before .args) .state .from) ((c .before .before .before .before .before .before .before .before .before .before .before .before .before .before .before .before .before .before .before .args) .state .have) ((c .before .before .before .before .before .before .before .before .before .before .before .before .before .before .before .before .before .before .before .pre) .1 .1 .1 .1 .0) ((c .before .before .before .before .before .before .before .before .before .before .before .before .turn-of) .ensures) ((c .before .enum-told2) .given .1), (c .before .before .before .before .before .before .before .before .before .before .before .before .before .before .before .before .before .before .before .pre) .1 .1 .1 .1 .1 .1 .0), (c .before .before .before .before .before .before .before .before .before .before .before .before .turn-of) .ensures .alive))
+refilled-requires c κs = ((used-to (now (c .before .before .before .before .before .before .before .before .before .before .before .before .before .before .before .before .before .before .before .args .input)) (c .before .before .before .before .before .before .before .before .before .before .before .before .before .before .before .before .before .before .before .args .state .from) (c .before .before .before .before .before .before .before .before .before .before .before .before .before .before .before .before .before .before .before .args .state .have) (c .before .before .before .before .before .before .before .before .before .before .before .before .before .before .before .before .before .before .before .pre .1 .1 .1 .1 .0) (c .before .before .before .before .before .before .before .before .before .before .before .before .turn-of .ensures), (c .before .before .before .before .before .before .before .before .before .before .before .before .before .before .before .before .before .before .before .pre) .1 .1 .1 .1 .0 .1), (omega (arith, few-held (now (c .before .before .before .before .before .before .before .before .before .before .before .before .before .before .before .before .before .before .before .args .input)) (c .before .before .before .before .before .before .before .before .before .before .before .before .before .before .before .before .before .before .before .args .state .from) (c .before .before .before .before .before .before .before .before .before .before .before .before .before .before .before .before .before .before .before .args .state .have) (c .before .before .before .before .before .before .before .before .before .before .before .before .before .before .before .before .before .before .before .pre .1 .1 .1 .1 .0) (c .before .before .before .before .before .before .before .before .before .before .before .before .turn-of .ensures) (c .before .enum-told2 .given .1), (c .before .before .before .before .before .before .before .before .before .before .before .before .before .before .before .before .before .before .before .pre) .1 .1 .1 .1 .1 .1 .0), (c .before .before .before .before .before .before .before .before .before .before .before .before .turn-of) .ensures .alive))
 
 enum-told-3 : tie.Need-enum-told-3
 enum-told-3 c = search needs
@@ -64,7 +65,7 @@ same-length-4 : tie.Need-same-length-4
 same-length-4 c = search needs
 
 returns-2 : tie.Need-returns-2
-returns-2 c = ((used-to (now ((c .before .before .before .before .before .before .before .before .before .before .before .before .before .before .before .before .before .before .args) .input)) ((c .before .before .before .before .before .before .before .before .before .before .before .before .before .before .before .before .before .before .args) .state .from) ((c .before .before .before .before .before .before .before .before .before .before .before .before .before .before .before .before .before .before .args) .state .have) ((c .before .before .before .before .before .before .before .before .before .before .before .before .before .before .before .before .before .before .pre) .1 .1 .1 .1 .0) ((c .before .before .before .before .before .before .before .before .before .before .before .turn-of) .ensures), (c .before .before .before .before .before .before .before .before .before .before .before .before .before .before .before .before .before .before .pre) .1 .1 .1 .1 .0 .1), (c .before .before .before .before .before .before .before .before .before .before .before .turn-of) .ensures .alive)
+returns-2 c = ((used-to (now (c .before .before .before .before .before .before .before .before .before .before .before .before .before .before .before .before .before .before .args .input)) (c .before .before .before .before .before .before .before .before .before .before .before .before .before .before .before .before .before .before .args .state .from) (c .before .before .before .before .before .before .before .before .before .before .before .before .before .before .before .before .before .before .args .state .have) (c .before .before .before .before .before .before .before .before .before .before .before .before .before .before .before .before .before .before .pre .1 .1 .1 .1 .0) (c .before .before .before .before .before .before .before .before .before .before .before .turn-of .ensures), (c .before .before .before .before .before .before .before .before .before .before .before .before .before .before .before .before .before .before .pre) .1 .1 .1 .1 .0 .1), (c .before .before .before .before .before .before .before .before .before .before .before .turn-of) .ensures .alive)
 
 same-length-5 : tie.Need-same-length-5
 same-length-5 c = search needs
@@ -82,7 +83,7 @@ same-length-8 : tie.Need-same-length-8
 same-length-8 c = search needs
 
 returns-4 : tie.Need-returns-4
-returns-4 c = ((used-to (now ((c .before .before .before .before .before .before .before .before .before .before .before .before .before .before .before .before .before .before .args) .input)) ((c .before .before .before .before .before .before .before .before .before .before .before .before .before .before .before .before .before .before .args) .state .from) ((c .before .before .before .before .before .before .before .before .before .before .before .before .before .before .before .before .before .before .args) .state .have) ((c .before .before .before .before .before .before .before .before .before .before .before .before .before .before .before .before .before .before .pre) .1 .1 .1 .1 .0) ((c .before .before .before .before .before .before .before .before .before .before .before .turn-of) .ensures), (c .before .before .before .before .before .before .before .before .before .before .before .before .before .before .before .before .before .before .pre) .1 .1 .1 .1 .0 .1), (c .before .before .before .before .before .before .before .before .before .before .before .turn-of) .ensures .alive)
+returns-4 c = ((used-to (now (c .before .before .before .before .before .before .before .before .before .before .before .before .before .before .before .before .before .before .args .input)) (c .before .before .before .before .before .before .before .before .before .before .before .before .before .before .before .before .before .before .args .state .from) (c .before .before .before .before .before .before .before .before .before .before .before .before .before .before .before .before .before .before .args .state .have) (c .before .before .before .before .before .before .before .before .before .before .before .before .before .before .before .before .before .before .pre .1 .1 .1 .1 .0) (c .before .before .before .before .before .before .before .before .before .before .before .turn-of .ensures), (c .before .before .before .before .before .before .before .before .before .before .before .before .before .before .before .before .before .before .pre) .1 .1 .1 .1 .0 .1), (c .before .before .before .before .before .before .before .before .before .before .before .turn-of) .ensures .alive)
 
 same-length-9 : tie.Need-same-length-9
 same-length-9 c = search needs
@@ -91,7 +92,7 @@ same-length-10 : tie.Need-same-length-10
 same-length-10 c = search needs
 
 returns-5 : tie.Need-returns-5
-returns-5 c = ((used-to (now ((c .before .before .before .before .before .before .before .before .before .before .before .before .before .before .before .before .before .before .args) .input)) ((c .before .before .before .before .before .before .before .before .before .before .before .before .before .before .before .before .before .before .args) .state .from) ((c .before .before .before .before .before .before .before .before .before .before .before .before .before .before .before .before .before .before .args) .state .have) ((c .before .before .before .before .before .before .before .before .before .before .before .before .before .before .before .before .before .before .pre) .1 .1 .1 .1 .0) ((c .before .before .before .before .before .before .before .before .before .before .before .turn-of) .ensures), (c .before .before .before .before .before .before .before .before .before .before .before .before .before .before .before .before .before .before .pre) .1 .1 .1 .1 .0 .1), (c .before .before .before .before .before .before .before .before .before .before .before .turn-of) .ensures .alive)
+returns-5 c = ((used-to (now (c .before .before .before .before .before .before .before .before .before .before .before .before .before .before .before .before .before .before .args .input)) (c .before .before .before .before .before .before .before .before .before .before .before .before .before .before .before .before .before .before .args .state .from) (c .before .before .before .before .before .before .before .before .before .before .before .before .before .before .before .before .before .before .args .state .have) (c .before .before .before .before .before .before .before .before .before .before .before .before .before .before .before .before .before .before .pre .1 .1 .1 .1 .0) (c .before .before .before .before .before .before .before .before .before .before .before .turn-of .ensures), (c .before .before .before .before .before .before .before .before .before .before .before .before .before .before .before .before .before .before .pre) .1 .1 .1 .1 .0 .1), (c .before .before .before .before .before .before .before .before .before .before .before .turn-of) .ensures .alive)
 
 same-length-11 : tie.Need-same-length-11
 same-length-11 c = search needs
@@ -100,7 +101,7 @@ same-length-12 : tie.Need-same-length-12
 same-length-12 c = search needs
 
 returns-6 : tie.Need-returns-6
-returns-6 c = ((used-to (now ((c .before .before .before .before .before .before .before .before .before .before .before .before .before .before .before .before .before .before .args) .input)) ((c .before .before .before .before .before .before .before .before .before .before .before .before .before .before .before .before .before .before .args) .state .from) ((c .before .before .before .before .before .before .before .before .before .before .before .before .before .before .before .before .before .before .args) .state .have) ((c .before .before .before .before .before .before .before .before .before .before .before .before .before .before .before .before .before .before .pre) .1 .1 .1 .1 .0) ((c .before .before .before .before .before .before .before .before .before .before .before .turn-of) .ensures), (c .before .before .before .before .before .before .before .before .before .before .before .before .before .before .before .before .before .before .pre) .1 .1 .1 .1 .0 .1), (c .before .before .before .before .before .before .before .before .before .before .before .turn-of) .ensures .alive)
+returns-6 c = ((used-to (now (c .before .before .before .before .before .before .before .before .before .before .before .before .before .before .before .before .before .before .args .input)) (c .before .before .before .before .before .before .before .before .before .before .before .before .before .before .before .before .before .before .args .state .from) (c .before .before .before .before .before .before .before .before .before .before .before .before .before .before .before .before .before .before .args .state .have) (c .before .before .before .before .before .before .before .before .before .before .before .before .before .before .before .before .before .before .pre .1 .1 .1 .1 .0) (c .before .before .before .before .before .before .before .before .before .before .before .turn-of .ensures), (c .before .before .before .before .before .before .before .before .before .before .before .before .before .before .before .before .before .before .pre) .1 .1 .1 .1 .0 .1), (c .before .before .before .before .before .before .before .before .before .before .before .turn-of) .ensures .alive)
 
 pub round-of-spec : {M : Type 1} → statement M
 round-of-spec =

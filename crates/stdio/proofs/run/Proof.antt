@@ -1,4 +1,5 @@
 -- `stdio::run` is safe and ends. The loop's invariant: the buffers keep their length, and what is held lies within one.
+-- Assumes nothing.
 use mathlib.Core.Path.{_≡_, refl, sym, _∙_}
 use Prim.Native.Nat.{_≤_}
 use native.Mathlib.Omega.{arith}
@@ -42,16 +43,16 @@ large-buffer-requires-2 : tie.Need-large-buffer-requires-2 Inv-loop μ-loop
 large-buffer-requires-2 c κs = search needs
 
 loop-holds : tie.Need-loop-holds Inv-loop μ-loop
-loop-holds c = ((omega arith, omega arith), (tt, (sym ((c .before .large-buffer) .ensures), sym ((c .large-buffer2) .ensures))))
+loop-holds c = ((omega arith, omega arith), (tt, (sym (c .before .large-buffer .ensures), sym (c .large-buffer2 .ensures))))
 
 sub-turns : tie.Need-sub-turns Inv-loop μ-loop
 sub-turns c = omega arith
 
 slice-aggregate-round-of : tie.Need-slice-aggregate-round-of Inv-loop μ-loop
-slice-aggregate-round-of c = sym ((c .before .before .before .before .before .before .before .before .before .loop) .inv .1 .1 .0)
+slice-aggregate-round-of c = sym (c .before .before .before .before .before .before .before .before .before .loop .inv .1 .1 .0)
 
 slice-aggregate-round-of-2 : tie.Need-slice-aggregate-round-of-2 Inv-loop μ-loop
-slice-aggregate-round-of-2 c = sym ((c .before .before .before .before .before .before .before .before .before .before .loop) .inv .1 .1 .1)
+slice-aggregate-round-of-2 c = sym (c .before .before .before .before .before .before .before .before .before .before .loop .inv .1 .1 .1)
 
 round-of-requires : tie.Need-round-of-requires Inv-loop μ-loop
 unfolding armTable opcodes

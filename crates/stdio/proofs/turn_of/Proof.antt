@@ -1,4 +1,5 @@
 -- `stdio::turn_of` meets its contract: the pass's, whose lines lie within the text.
+-- Assumes nothing.
 use native.Mathlib.Omega.{arith}
 use lib.ListN.{length-take}
 use borrow.Author.Needs.{needs}

@@ -1,4 +1,5 @@
 -- `streams::pass::next_at` meets its contract, by cases.
+-- Assumes nothing.
 use borrow.Author.Tests.{lt-ltb, le-ltb}
 use borrow.Author.Needs.{needs}
 use Rattle.streams.proofs.pass.next_at.Statement.{statement}
@@ -23,10 +24,10 @@ returns-2 : tie.Need-returns-2
 returns-2 c = search needs
 
 returns-3 : tie.Need-returns-3
-returns-3 c = rw (((c .before .before .enum-told2)) .given .1, ((c .before .if2)) .taken, lt-ltb 0 (((c .before .before .before .before .args)) .held) (((c .if3)) .taken))
+returns-3 c = rw ((c .before .before .enum-told2) .given .1, (c .before .if2) .taken, lt-ltb 0 (c .before .before .before .before .args .held) (c .if3 .taken))
 
 returns-4 : tie.Need-returns-4
-returns-4 c = rw (((c .before .before .enum-told2)) .given .1, ((c .before .if2)) .taken, le-ltb 0 (((c .before .before .before .before .args)) .held) (((c .if3)) .left))
+returns-4 c = rw ((c .before .before .enum-told2) .given .1, (c .before .if2) .taken, le-ltb 0 (c .before .before .before .before .args .held) (c .if3 .left))
 
 returns-5 : tie.Need-returns-5
 returns-5 c = search needs

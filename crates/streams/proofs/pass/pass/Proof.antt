@@ -1,4 +1,5 @@
 -- `streams::pass::pass` meets its contract. The loop's invariant is `Going`; its measure is what is left of the input.
+-- Assumes nothing.
 use mathlib.Core.Path.{_∙_}
 use Rattle.streams.proofs.Passing.{Going, going-start, going-on, uses-within, counts-within, refuses-within, passes-full, passes-rest}
 use Rattle.streams.proofs.pass.pass.Statement.{statement}
@@ -18,7 +19,7 @@ abbrev μ-loop : tie.MeasureT-loop
     length input - at
 
 loop-holds : tie.Need-loop-holds Inv-loop μ-loop
-loop-holds c = going-start ((c .before .before .args) .asked) ((c .before .before .args) .stage) (now ((c .before .before .args) .input)) (now ((c .before .before .args) .text)) ((c .before .before .pre) .1 .1 .1 .1 .0)
+loop-holds c = going-start (c .before .before .args .asked) (c .before .before .args .stage) (now (c .before .before .args .input)) (now (c .before .before .args .text)) (c .before .before .pre .1 .1 .1 .1 .0)
 
 sub-loop : tie.Need-sub-loop Inv-loop μ-loop
 sub-loop c = omega (arith, (c .loop) .inv .fits, (c .loop) .inv .kept)
@@ -48,28 +49,28 @@ same-length : tie.Need-same-length Inv-loop μ-loop
 same-length c = (c .before .before .put-last) .kept .0 ∙ ((c .before .before .before .before .before .before .before .before .before .step) .kept .1 .1 .1 .1 .1 .1 .1 .1 .1 .1 .0 ∙ (c .before .before .before .before .before .before .before .before .before .before .before .before .before .loop) .inv .kept)
 
 returns : tie.Need-returns Inv-loop μ-loop
-returns c = passes-rest ((c .before .before .before .before .before .before .before .before .before .before .before .before .before .loop) .inv) (omega (arith, (c .before .before .before .before .before .before .before .before .before .before .before .before .loop-test) .taken)) ((c .before .before .before .before .before .before .before .before .before .step) .ensures) ((c .before .before .before .before .before .if1) .taken) ((c .before .before .before .before .next-at) .ensures) ((c .before .before .put-last) .ensures)
+returns c = passes-rest (c .before .before .before .before .before .before .before .before .before .before .before .before .before .loop .inv) (omega (arith, (c .before .before .before .before .before .before .before .before .before .before .before .before .loop-test) .taken)) (c .before .before .before .before .before .before .before .before .before .step .ensures) (c .before .before .before .before .before .if1 .taken) (c .before .before .before .before .next-at .ensures) (c .before .before .put-last .ensures)
 
 add-at : tie.Need-add-at Inv-loop μ-loop
-add-at c = omega (arith, (c .before .before .before .before .before .before .before .before .before .before .before .before .good .1 .1 .1 .1 .1 .1 .1 .1 .0 .0), uses-within ((c .before .before .before .before .before .before .before .before .before .loop) .inv) ((c .before .before .before .before .before .step) .ensures))
+add-at c = omega (arith, (c .before .before .before .before .before .before .before .before .before .before .before .before .good .1 .1 .1 .1 .1 .1 .1 .1 .0 .0), uses-within (c .before .before .before .before .before .before .before .before .before .loop .inv) (c .before .before .before .before .before .step .ensures))
 
 add-records : tie.Need-add-records Inv-loop μ-loop
-add-records c = omega (arith, (c .before .before .before .before .before .before .before .before .before .before .before .before .before .good .1 .1 .1 .1 .1 .1 .1 .1 .0 .0), uses-within ((c .before .before .before .before .before .before .before .before .before .before .loop) .inv) ((c .before .before .before .before .before .before .step) .ensures), counts-within ((c .before .before .before .before .before .before .before .before .before .before .loop) .inv) ((c .before .before .before .before .before .before .step) .ensures))
+add-records c = omega (arith, (c .before .before .before .before .before .before .before .before .before .before .before .before .before .good .1 .1 .1 .1 .1 .1 .1 .1 .0 .0), uses-within (c .before .before .before .before .before .before .before .before .before .before .loop .inv) (c .before .before .before .before .before .before .step .ensures), counts-within (c .before .before .before .before .before .before .before .before .before .before .loop .inv) (c .before .before .before .before .before .before .step .ensures))
 
 add-refused : tie.Need-add-refused Inv-loop μ-loop
-add-refused c = omega (arith, (c .before .before .before .before .before .before .before .before .before .before .before .before .before .before .good .1 .1 .1 .1 .1 .1 .1 .1 .0 .0), uses-within ((c .before .before .before .before .before .before .before .before .before .before .before .loop) .inv) ((c .before .before .before .before .before .before .before .step) .ensures), counts-within ((c .before .before .before .before .before .before .before .before .before .before .before .loop) .inv) ((c .before .before .before .before .before .before .before .step) .ensures), refuses-within ((c .before .before .before .before .before .before .before .before .before .before .before .loop) .inv) ((c .before .before .before .before .before .before .before .step) .ensures))
+add-refused c = omega (arith, (c .before .before .before .before .before .before .before .before .before .before .before .before .before .before .good .1 .1 .1 .1 .1 .1 .1 .1 .0 .0), uses-within (c .before .before .before .before .before .before .before .before .before .before .before .loop .inv) (c .before .before .before .before .before .before .before .step .ensures), counts-within (c .before .before .before .before .before .before .before .before .before .before .before .loop .inv) (c .before .before .before .before .before .before .before .step .ensures), refuses-within (c .before .before .before .before .before .before .before .before .before .before .before .loop .inv) (c .before .before .before .before .before .before .before .step .ensures))
 
 loop-less : tie.Need-loop-less Inv-loop μ-loop
-loop-less c = omega (arith, uses-within ((c .before .before .before .before .before .before .before .before .before .before .before .loop) .inv) ((c .before .before .before .before .before .before .before .step) .ensures), (c .before .before .before .if1) .left)
+loop-less c = omega (arith, uses-within (c .before .before .before .before .before .before .before .before .before .before .before .loop .inv) (c .before .before .before .before .before .before .before .step .ensures), (c .before .before .before .if1) .left)
 
 loop-again : tie.Need-loop-again Inv-loop μ-loop
-loop-again c = going-on ((c .before .before .before .before .before .before .before .before .before .before .before .loop) .inv) ((c .before .before .before .before .before .before .before .step) .ensures) (omega (arith, (c .before .before .before .before .before .before .before .before .before .before .loop-test) .taken))
+loop-again c = going-on (c .before .before .before .before .before .before .before .before .before .before .before .loop .inv) (c .before .before .before .before .before .before .before .step .ensures) (omega (arith, (c .before .before .before .before .before .before .before .before .before .before .loop-test) .taken))
 
 same-length-2 : tie.Need-same-length-2 Inv-loop μ-loop
 same-length-2 c = (c .before .loop) .inv .kept
 
 returns-2 : tie.Need-returns-2 Inv-loop μ-loop
-returns-2 c = passes-full ((c .before .loop) .inv) ((c .before .before .before .before .pre) .1 .1 .1 .1 .1) (omega (arith, (c .loop-test) .left))
+returns-2 c = passes-full (c .before .loop .inv) (c .before .before .before .before .pre .1 .1 .1 .1 .1) (omega (arith, (c .loop-test) .left))
 
 pub pass-spec : {M : Type 1} → statement M
 pass-spec =

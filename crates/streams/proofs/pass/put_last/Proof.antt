@@ -1,4 +1,5 @@
 -- `streams::pass::put_last` meets its contract: a line of its own where the listing is cut.
+-- Assumes nothing.
 use mathlib.Core.Path.{sym, ap}
 use Rattle.text.proofs.Putting.{put-none, put-as}
 use Rattle.streams.specs.Pass.{lastLine}
@@ -32,23 +33,23 @@ same-length c = search needs
 
 returns : tie.Need-returns
 unfolding lastLine
-returns c = put-as (sym (ap lastLine (((c .before .before .before .before .before .enum-told)) .given .1))) (((c .before .before .put-bytes)) .ensures)
+returns c = put-as (sym (ap lastLine (c .before .before .before .before .before .enum-told .given .1))) (c .before .before .put-bytes .ensures)
 
 returns-2 : tie.Need-returns-2
 unfolding lastLine
-returns-2 c = put-as (sym (ap lastLine (((c .enum-told2)) .given .1))) put-none
+returns-2 c = put-as (sym (ap lastLine (c .enum-told2 .given .1))) put-none
 
 returns-3 : tie.Need-returns-3
 unfolding lastLine
-returns-3 c = put-as (sym (ap lastLine (((c .enum-told3)) .given .1))) put-none
+returns-3 c = put-as (sym (ap lastLine (c .enum-told3 .given .1))) put-none
 
 returns-4 : tie.Need-returns-4
 unfolding lastLine
-returns-4 c = put-as (sym (ap lastLine (((c .enum-told4)) .given .1))) put-none
+returns-4 c = put-as (sym (ap lastLine (c .enum-told4 .given .1))) put-none
 
 returns-5 : tie.Need-returns-5
 unfolding lastLine
-returns-5 c = put-as (sym (ap lastLine (((c .enum-told5)) .given .1))) put-none
+returns-5 c = put-as (sym (ap lastLine (c .enum-told5 .given .1))) put-none
 
 pub put-last-spec : {M : Type 1} → statement M
 put-last-spec =

@@ -1,4 +1,5 @@
 -- `streams::stream::begun` meets its contract, by cases.
+-- Assumes nothing.
 use native.Mathlib.Omega.{arith}
 use Rattle.streams.proofs.Stepping.{skip-within}
 use borrow.Author.Needs.{needs}
@@ -15,7 +16,7 @@ enum-known-stage : tie.Need-enum-known-stage
 enum-known-stage c = search needs
 
 sub-result : tie.Need-sub-result
-sub-result c = omega (arith, skip-within ((c .before .stage) .given .1) (c .before .before .before .pre))
+sub-result c = omega (arith, skip-within (c .before .stage .given .1) (c .before .before .before .pre))
 
 enum-told-3 : tie.Need-enum-told-3
 enum-told-3 c = search needs
@@ -27,7 +28,7 @@ returns-2 : tie.Need-returns-2
 returns-2 c = search needs
 
 returns-3 : tie.Need-returns-3
-returns-3 c = rw ((c .before .stage) .given .1)
+returns-3 c = rw (c .before .stage .given .1)
 
 returns-4 : tie.Need-returns-4
 returns-4 c = search needs

@@ -1,4 +1,5 @@
 -- `streams::stream::step` meets its contract: each stage has its step.
+-- Assumes nothing.
 use mathlib.Core.Path.{sym, ap}
 use denote.Ref.{now}
 use Rattle.text.proofs.Putting.{put-none}
@@ -35,25 +36,25 @@ same-length c = search needs
 
 returns : tie.Need-returns
 unfolding stepped
-returns c = took-as (sym (ap (λ (s : Stage). stepped (((c .before .before .before .before .before .before .before .before .args)) .asked) s (now (((c .before .before .before .before .before .before .before .before .args)) .input))) (((c .before .before .before .before .enum-told)) .given .1))) (((c .before .before .step-version)) .ensures)
+returns c = took-as (sym (ap (λ (s : Stage). stepped (c .before .before .before .before .before .before .before .before .args .asked) s (now (c .before .before .before .before .before .before .before .before .args .input))) (c .before .before .before .before .enum-told .given .1))) (c .before .before .step-version .ensures)
 
 same-length-2 : tie.Need-same-length-2
 same-length-2 c = search needs
 
 returns-2 : tie.Need-returns-2
 unfolding stepped
-returns-2 c = took-as (sym (ap (λ (s : Stage). stepped (((c .before .before .before .before .before .before .before .before .args)) .asked) s (now (((c .before .before .before .before .before .before .before .before .args)) .input))) (((c .before .before .before .before .enum-told2)) .given .1))) (((c .before .before .step-frame)) .ensures)
+returns-2 c = took-as (sym (ap (λ (s : Stage). stepped (c .before .before .before .before .before .before .before .before .args .asked) s (now (c .before .before .before .before .before .before .before .before .args .input))) (c .before .before .before .before .enum-told2 .given .1))) (c .before .before .step-frame .ensures)
 
 same-length-3 : tie.Need-same-length-3
 same-length-3 c = search needs
 
 returns-3 : tie.Need-returns-3
 unfolding stepped
-returns-3 c = took-as (sym (ap (λ (s : Stage). stepped (((c .before .before .before .before .before .before .before .before .before .args)) .asked) s (now (((c .before .before .before .before .before .before .before .before .before .args)) .input))) (((c .before .before .before .before .before .stage)) .given .1))) (((c .before .before .step-skip)) .ensures)
+returns-3 c = took-as (sym (ap (λ (s : Stage). stepped (c .before .before .before .before .before .before .before .before .before .args .asked) s (now (c .before .before .before .before .before .before .before .before .before .args .input))) (c .before .before .before .before .before .stage .given .1))) (c .before .before .step-skip .ensures)
 
 returns-4 : tie.Need-returns-4
 unfolding stepped
-returns-4 c = took (ap (λ (s : Stage). stepped (((c .before .before .before .before .args)) .asked) s (now (((c .before .before .before .before .args)) .input))) (((c .enum-told3)) .given .1)) put-none
+returns-4 c = took (ap (λ (s : Stage). stepped (c .before .before .before .before .args .asked) s (now (c .before .before .before .before .args .input))) (c .enum-told3 .given .1)) put-none
 
 pub step-spec : {M : Type 1} → statement M
 step-spec =

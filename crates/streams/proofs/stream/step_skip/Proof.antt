@@ -1,4 +1,5 @@
 -- `streams::stream::step_skip` meets its contract, by its one test.
+-- Assumes nothing.
 use native.Mathlib.Omega.{arith}
 use denote.Ref.{now}
 use Rattle.text.proofs.Putting.{put-none}
@@ -12,7 +13,7 @@ sub-t9 : tie.Need-sub-t9
 sub-t9 c = search needs
 
 returns : tie.Need-returns
-returns c = took (skip-some (((c .before .before .before .args)) .left) (((c .before .before .before .args)) .size) (now (((c .before .before .before .args)) .input)) (((c .if1)) .taken)) put-none
+returns c = took (skip-some (c .before .before .before .args .left) (c .before .before .before .args .size) (now (c .before .before .before .args .input)) (c .if1 .taken)) put-none
 
 put-refused-requires : tie.Need-put-refused-requires
 put-refused-requires c κs = (omega arith, record { fits = omega (arith, refused-most 2) })
@@ -21,7 +22,7 @@ same-length : tie.Need-same-length
 same-length c = search needs
 
 returns-2 : tie.Need-returns-2
-returns-2 c = took (skip-all (((c .before .before .before .before .before .before .before .args)) .left) (((c .before .before .before .before .before .before .before .args)) .size) (now (((c .before .before .before .before .before .before .before .args)) .input)) (((c .before .before .before .before .if1)) .left)) (((c .before .before .put-refused)) .ensures)
+returns-2 c = took (skip-all (c .before .before .before .before .before .before .before .args .left) (c .before .before .before .before .before .before .before .args .size) (now (c .before .before .before .before .before .before .before .args .input)) (c .before .before .before .before .if1 .left)) (c .before .before .put-refused .ensures)
 
 pub step-skip-spec : {M : Type 1} → statement M
 step-skip-spec = tie.close (tie.spec sub-t9 returns put-refused-requires same-length returns-2)
