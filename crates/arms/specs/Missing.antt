@@ -1,4 +1,5 @@
--- Answer 5 as the code asks for it: a place of the plan lacks its label. That this is what `sizeRefused` says of the fields is a law.
+-- No promise names this: answer 5 as the code asks for it, a place of the plan that lacks its label. That it is what `sizeRefused`
+-- says of the fields is a law.
 -- Assumes nothing.
 use mathlib.Core.Bool.{Bool, false, _&&_, _||_}
 use lib.Dec.{eqb}

@@ -1,20 +1,20 @@
 -- What a pass leaves of the bytes that are held.
 -- Assumes nothing.
-use mathlib.Core.Path.{_≡_, _∙_}
+use mathlib.Core.Path.{_≡_}
 use mathlib.Core.Bool.{Bool}
 use mathlib.Core.List.{List}
-use Prim.Native.Nat.{ℕ, _+_, _-_, _≤_, _<_}
+use Prim.Native.Nat.{ℕ, _+_, _-_, _≤_}
 use native.Mathlib.Omega.{arith}
 use lib.ListN.{length, take, drop, length-drop}
 use lib.Seq.{length-take-le}
 use Rattle.bodies.specs.Refusals.{longestBody}
 use Rattle.records.specs.declared.Asked.{Asked}
-use Rattle.streams.specs.Pass.{Rests, Follows, Passes}
+use Rattle.streams.specs.Pass.{Follows, Passes}
 use Rattle.streams.specs.Pass.Follows.{full, rests}
 use Rattle.streams.specs.declared.Stage.{Stage}
 use Rattle.streams.specs.declared.Passed.{Passed}
 use Rattle.streams.specs.declared.Next.{Next}
-use Rattle.streams.specs.declared.Next.the-variants.{Full, Read, Whole, Cut, Unknown}
+use Rattle.streams.specs.declared.Next.the-variants.{Read}
 
 -- where more is to be read, few bytes are held
 pub waits-few : {asked : Asked} {ended : Bool} {stage : Stage} {held : List ℕ} {used : ℕ} {next : Next} → Follows asked ended stage held used next → next ≡ Read → length held ≤ longestBody + 1

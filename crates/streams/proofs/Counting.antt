@@ -2,15 +2,14 @@
 -- Assumes nothing.
 use mathlib.Core.Path.{_≡_, refl, sym, ap, ap₂, _∙_}
 use mathlib.Core.Bool.{Bool, true, false, cond}
-use mathlib.Core.List.{List, [], _∷_, _++_, append-assoc, append-nil}
+use mathlib.Core.List.{List, [], _∷_, _++_}
 use Prim.Native.Nat.{ℕ, zero, suc, _+_, _-_, _^_, _≤_, _<_}
 use native.Mathlib.Nat.{not-suc-le-zero}
 use native.Mathlib.Omega.{arith}
 use lib.Dec.{ltb, lit≤}
-use lib.ListN.{length, take, drop, length-append, length-drop}
-use lib.Seq.{drop-length, length-take-le, take-append-le, drop-append-le, drop-append-add, getD-take, getD-drop, drop-drop}
+use lib.ListN.{length, drop, length-append, length-drop}
+use lib.Seq.{drop-length, length-take-le, drop-append-le, drop-append-add, getD-take, getD-drop, drop-drop}
 use borrow.Author.Tests.{lt-ltb, le-ltb, ltb-true, ltb-false}
-use Rattle.text.specs.Words.{join}
 use Rattle.text.proofs.Choosing.{cond-by}
 use Rattle.answers.specs.Refusals.{answerOf, length as lengthNumber}
 use Rattle.answers.specs.Lines.{refusedLine}
@@ -24,7 +23,7 @@ use Rattle.records.specs.Records.{refusals}
 use Rattle.records.specs.Lines.{recordLine}
 use Rattle.listings.specs.Lines.{versionLine}
 use Rattle.streams.specs.Stream.{Taken, taken, ended, refusedBy, versionStep, frameStep, stepped, Alive}
-use Rattle.streams.specs.Counts.{sumWithin, sumOf, listingSum, recordCount, refusedCount}
+use Rattle.streams.specs.Counts.{sumWithin, sumOf, listingSum}
 use Rattle.streams.specs.declared.Stage.{Stage}
 use Rattle.streams.specs.declared.Stage.the-variants.{Version, Frames, Skip, Done}
 use Rattle.listings.proofs.Following.{frame-some}

@@ -7,7 +7,7 @@ use Prim.Native.Nat.{ℕ, zero, suc, _+_, _-_, _≤_, _<_}
 use native.Mathlib.Nat.{not-suc-le-zero}
 use native.Mathlib.Omega.{arith}
 use lib.Dec.{ltb, lit≤}
-use lib.ListN.{length, take, drop, length-append, length-drop}
+use lib.ListN.{length, drop, length-append, length-drop}
 use lib.Seq.{drop-length, drop-append-le, drop-append-add, drop-drop}
 use borrow.Author.Tests.{lt-ltb, le-ltb, ltb-true, ltb-false}
 use Rattle.text.specs.Words.{join}
@@ -20,7 +20,7 @@ use Rattle.bodies.specs.Refusals.{longestBody}
 use Rattle.records.specs.declared.Asked.{Asked}
 use Rattle.records.specs.Records.{refusals}
 use Rattle.records.specs.Lines.{recordLine}
-use Rattle.streams.specs.Stream.{Taken, taken, ended, refusedBy, versionStep, frameStep, stepped, Alive, cutAt, begunOf}
+use Rattle.streams.specs.Stream.{Taken, taken, ended, refusedBy, versionStep, frameStep, stepped, Alive, begunOf}
 use Rattle.streams.specs.Pass.{Steps, nextAt, Rests, Follows, Passes}
 use Rattle.streams.specs.Pass.Steps.{none as no-step, more as step-more}
 use Rattle.streams.specs.Pass.Follows.{full as is-full, rests}

@@ -1,9 +1,9 @@
 -- The loop of a pass: what holds after each step, and what it comes to.
 -- Assumes nothing.
-use mathlib.Core.Path.{_≡_, refl, sym, ap, subst, _∙_}
+use mathlib.Core.Path.{_≡_, refl, sym, ap, _∙_}
 use mathlib.Core.Bool.{Bool}
 use mathlib.Core.List.{List, [], _∷_, _++_, append-nil}
-use Prim.Native.Nat.{ℕ, _+_, _-_, _*_, _≤_, _<_}
+use Prim.Native.Nat.{ℕ, _+_, _-_, _*_, _≤_}
 use native.Mathlib.Omega.{arith}
 use lib.Dec.{lit≤}
 use lib.ListN.{length, take, drop, length-append, length-drop}
@@ -12,11 +12,10 @@ use Rattle.text.specs.Write.{write, Room, Put}
 use Rattle.text.proofs.Putting.{put-none, put-length, and-then}
 use Rattle.text.proofs.Writing.{write-none}
 use Rattle.lines.specs.Text.{longestLine}
-use Rattle.bodies.specs.Refusals.{longestBody}
 use Rattle.records.specs.declared.Asked.{Asked}
 use Rattle.records.proofs.Texts.{put-front}
 use Rattle.streams.specs.Stream.{Taken, stepped, Alive, Took}
-use Rattle.streams.specs.Pass.{Steps, nextAt, lastLine, Rests, Follows, Passes}
+use Rattle.streams.specs.Pass.{Steps, nextAt, lastLine, Passes}
 use Rattle.streams.specs.Pass.Steps.{none, more}
 use Rattle.streams.specs.Pass.Follows.{full, rests}
 use Rattle.streams.specs.declared.Stage.{Stage}

@@ -1,6 +1,6 @@
 -- A whole run: what its passes hand out, joined, is the definition's text of the whole input; and every sequence of reads has one.
 -- Assumes nothing.
-use mathlib.Core.Path.{_≡_, refl, sym, ap, subst, _∙_}
+use mathlib.Core.Path.{_≡_, refl, sym, ap, _∙_}
 use mathlib.Core.Bool.{Bool, true, false, cond}
 use mathlib.Core.List.{List, [], _∷_, _++_, append-assoc, append-nil}
 use mathlib.Core.Logic.{_⊎_, inl, inr}
@@ -15,7 +15,7 @@ use Rattle.answers.proofs.Unique.{none-or-some}
 use Rattle.bodies.specs.WellFormed.{Bytes}
 use Rattle.records.specs.declared.Asked.{Asked}
 use Rattle.listings.specs.Lines.{cutLine, listingText}
-use Rattle.streams.specs.Stream.{Taken, stepped, Alive, cutAt, remaining, Streams}
+use Rattle.streams.specs.Stream.{stepped, Alive, cutAt, remaining, Streams}
 use Rattle.streams.specs.Stream.Streams.{read, step, end}
 use Rattle.streams.specs.Pass.{Steps, nextAt, lastLine, Rests, Follows, Passes}
 use Rattle.streams.specs.Pass.Steps.{none as no-step, more as step-more}
@@ -26,9 +26,9 @@ use Rattle.streams.specs.declared.Passed.{Passed}
 use Rattle.streams.specs.declared.Stage.{Stage}
 use Rattle.streams.specs.declared.Stage.the-variants.{Version, Frames, Skip, Done}
 use Rattle.streams.specs.declared.Next.{Next}
-use Rattle.streams.specs.declared.Next.the-variants.{Full, Read, Whole, Cut, Unknown}
-use Rattle.streams.proofs.Stepping.{Bounded, bounded}
-use Rattle.streams.proofs.Streaming.{Known, Sound, step-sound, bytes-drop}
+use Rattle.streams.specs.declared.Next.the-variants.{Read, Whole, Cut}
+use Rattle.streams.proofs.Stepping.{bounded}
+use Rattle.streams.proofs.Streaming.{Known, step-sound, bytes-drop}
 
 -- steps, and what comes after them
 pub steps-stream : {asked : Asked} {stage now : Stage} {held left says written : List ℕ} {reads : List (List ℕ)} {records refused : ℕ} → Steps asked stage held says now left records refused → Streams asked now left reads written → Streams asked stage held reads (says ++ written)

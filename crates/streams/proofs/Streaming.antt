@@ -5,7 +5,7 @@ use mathlib.Core.Bool.{Bool, true, false, _&&_}
 use mathlib.Core.List.{List, [], _∷_, _++_, append-assoc, append-nil}
 use Prim.Native.Nat.{ℕ, _+_, _-_, _*_, _^_, _≤_, _<_}
 use native.Mathlib.Omega.{arith}
-use lib.Dec.{ltb, leb, eqb, lit≤}
+use lib.Dec.{ltb, leb, lit≤}
 use lib.ListN.{length, take, drop, length-append, length-drop, List·getD-append, drop-of-length-le}
 use lib.Seq.{drop-length, length-take-le, take-append-le, drop-append-le, drop-append-add, getD-take, getD-drop, drop-drop}
 use borrow.Author.Tests.{lt-ltb, le-ltb, le-leb, lt-leb, ne-eqb, ltb-true, ltb-false}
@@ -24,7 +24,7 @@ use Rattle.records.specs.declared.Asked.{Asked}
 use Rattle.records.specs.Records.{refusals}
 use Rattle.records.specs.Lines.{recordLine}
 use Rattle.records.proofs.Texts.{line-refused}
-use Rattle.listings.specs.Lines.{cutLine, versionLine, linesOf, listingText}
+use Rattle.listings.specs.Lines.{cutLine, linesOf, listingText}
 use Rattle.streams.specs.Stream.{Taken, taken, ended, refusedBy, versionStep, frameStep, stepped, Alive, cutAt, remaining, Streams}
 use Rattle.streams.specs.Stream.Streams.{read, step, end}
 use Rattle.streams.specs.declared.Stage.{Stage}

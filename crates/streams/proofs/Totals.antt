@@ -1,8 +1,8 @@
 -- The counts of a whole run: the listing's whole frames, and those of them that are refused.
 -- Assumes nothing.
-use mathlib.Core.Path.{_≡_, refl, sym, ap, _∙_}
+use mathlib.Core.Path.{_≡_, refl, ap, _∙_}
 use mathlib.Core.Bool.{Bool, true, false}
-use mathlib.Core.List.{List, [], _∷_, _++_, append-assoc, append-nil}
+use mathlib.Core.List.{List, [], _++_, append-assoc, append-nil}
 use Prim.Native.Nat.{ℕ, _+_}
 use native.Mathlib.Omega.{arith}
 use lib.ListN.{drop}
@@ -11,20 +11,20 @@ use Rattle.answers.specs.Refusals.{answerOf}
 use Rattle.bodies.specs.WellFormed.{Bytes}
 use Rattle.records.specs.declared.Asked.{Asked}
 use Rattle.records.specs.Records.{refusals}
-use Rattle.streams.specs.Stream.{Taken, stepped, Alive, refusedBy}
-use Rattle.streams.specs.Pass.{Steps, Rests, Follows, Passes}
+use Rattle.streams.specs.Stream.{Taken, Alive, refusedBy}
+use Rattle.streams.specs.Pass.{Steps, Rests, Follows}
 use Rattle.streams.specs.Pass.Steps.{none as no-step, more as step-more}
 use Rattle.streams.specs.Pass.Follows.{full as is-full, rests}
 use Rattle.streams.specs.Runs.{Runs}
 use Rattle.streams.specs.Runs.Runs.{full as run-full, more as run-more, none as run-none, stop}
-use Rattle.streams.specs.Counts.{listingSum, recordCount, refusedCount}
+use Rattle.streams.specs.Counts.{recordCount, refusedCount}
 use Rattle.streams.specs.declared.Stage.{Stage}
 use Rattle.streams.specs.declared.Stage.the-variants.{Version, Frames, Skip, Done}
 use Rattle.streams.specs.declared.Next.{Next}
-use Rattle.streams.specs.declared.Next.the-variants.{Full, Read, Whole, Cut, Unknown}
+use Rattle.streams.specs.declared.Next.the-variants.{Read}
 use Rattle.streams.proofs.Streaming.{Known}
-use Rattle.streams.proofs.Running.{Carried, carried}
-use Rattle.streams.proofs.Counting.{toCount, Counts, Keeps, step-keeps, records-counted, refused-counted}
+use Rattle.streams.proofs.Running.{carried}
+use Rattle.streams.proofs.Counting.{toCount, Counts, step-keeps, records-counted, refused-counted}
 
 -- whole frames, and refused ones, that are still to come from a stage on
 abbrev framesFrom : Stage → List ℕ → ℕ

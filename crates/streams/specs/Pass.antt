@@ -1,14 +1,14 @@
 -- Steps one after the other, with the bytes that are there: what a pass promises.
 -- Assumes nothing.
 use mathlib.Core.Path.{_≡_}
-use mathlib.Core.Bool.{Bool, true, false, cond}
+use mathlib.Core.Bool.{Bool, cond}
 use mathlib.Core.List.{List, [], _++_}
 use Prim.Native.Nat.{ℕ, _+_, _≤_, _<_}
 use lib.ListN.{length, take, drop}
 use Rattle.bodies.specs.Refusals.{longestBody}
 use Rattle.records.specs.declared.Asked.{Asked}
 use Rattle.listings.specs.Lines.{cutLine}
-use Rattle.streams.specs.Stream.{Taken, stepped, Alive, cutAt}
+use Rattle.streams.specs.Stream.{stepped, Alive, cutAt}
 use Rattle.streams.specs.declared.Stage.{Stage}
 use Rattle.streams.specs.declared.Stage.the-variants.{Version, Frames, Skip, Done}
 use Rattle.streams.specs.declared.Next.{Next}
