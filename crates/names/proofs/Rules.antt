@@ -2,13 +2,14 @@
 -- Assumes nothing.
 use mathlib.Core.Path.{_≡_}
 use mathlib.Core.Bool.{not, _&&_}
-use mathlib.Core.List.{List, []}
-use Prim.Native.Nat.{ℕ, _<_}
-use native.Mathlib.Nat.{lt-trans}
-use lib.Dec.{T, leb}
+use mathlib.Core.List.{List, [], _∷_}
+use Prim.Native.Nat.{ℕ, zero, suc, suc-le-suc, _<_}
+use native.Mathlib.Nat.{lt-trans, not-suc-le-zero, le-of-suc-le-suc}
+use borrow.Author.Tests.{ltb-true}
+use lib.Dec.{T, leb, ltb}
 use lib.ListN.{length, getD}
 use Rattle.text.specs.Words.{every, ascend, distinct, empty, starts}
-use Rattle.text.proofs.Tables.{both-left, both-right, every-at, distinct-at}
+use Rattle.text.proofs.Tables.{both-left, both-right, so, every-at, distinct-at}
 use Rattle.names.specs.Opcodes.{mnemonics, mnemonic, opcodes}
 use Rattle.names.specs.Registers.{segments, registers, registerName}
 use Rattle.names.specs.Labels.{labels}
@@ -28,6 +29,13 @@ pub segments-keep : T (registersRule segments)
 unfolding registersRule segments
 segments-keep = tt
 
+-- where every offset is below the next, each is
+ascend-at : (xs : List ℕ) → T (ascend xs) → (k : ℕ) → suc k < length xs → getD xs k 0 < getD xs (suc k) 0
+ascend-at [] t k h = absurd (not-suc-le-zero h)
+ascend-at (a ∷ []) t k h = absurd (not-suc-le-zero (le-of-suc-le-suc h))
+ascend-at (a ∷ b ∷ xs) t zero h = ltb-true a b (so (ltb a b) (both-left (ltb a b) (ascend (b ∷ xs)) t))
+ascend-at (a ∷ b ∷ xs) t (suc k) h = ascend-at (b ∷ xs) (both-right (ltb a b) (ascend (b ∷ xs)) t) k (le-of-suc-le-suc h)
+
 -- at each entry of a table of names
 module _ (n : ℕ) (words : List (List ℕ)) (keep : T (namesRule n words)) where
   names-tested : T (every (nameOf n) words)
@@ -35,6 +43,14 @@ module _ (n : ℕ) (words : List (List ℕ)) (keep : T (namesRule n words)) wher
   names-tested =
       both-right (ascend (starts 0 words)) (every (nameOf n) words)
       (both-left (ascend (starts 0 words) && every (nameOf n) words) (distinct words) keep)
+
+  -- the offset of each is below that of the next
+  pub offsets-ascend : (k : ℕ) → suc k < length (starts 0 words) → getD (starts 0 words) k 0 < getD (starts 0 words) (suc k) 0
+  unfolding namesRule
+  offsets-ascend k h =
+      ascend-at (starts 0 words)
+      (both-left (ascend (starts 0 words)) (every (nameOf n) words)
+      (both-left (ascend (starts 0 words) && every (nameOf n) words) (distinct words) keep)) k h
 
   -- a name is there, has allowed letters alone, and is no longer than n
   pub name-kept : (k : ℕ) → k < length words → T (nameOf n (getD words k []))
@@ -65,6 +81,11 @@ mnemonic-some k h = name-some 13 mnemonics mnemonics-keep k h
 pub mnemonic-letters : (k : ℕ) → k < 154 → T (every letter (mnemonic k))
 unfolding mnemonic mnemonics opcodes
 mnemonic-letters k h = name-letters 13 mnemonics mnemonics-keep k h
+
+-- "offsets ascend", at each opcode
+pub mnemonic-ascends : (k : ℕ) → k < 154 → getD (starts 0 mnemonics) k 0 < getD (starts 0 mnemonics) (suc k) 0
+unfolding mnemonics opcodes
+mnemonic-ascends k h = offsets-ascend 13 mnemonics mnemonics-keep k (suc-le-suc h)
 
 -- two opcodes have two names
 pub mnemonic-alone : (j k : ℕ) → j < k → k < 154 → mnemonic j ≡ mnemonic k → ⊥

@@ -2,7 +2,7 @@
 -- Assumes nothing.
 use mathlib.Core.Path.{_≡_, refl, sym, ap, _∙_}
 use mathlib.Core.List.{List, [], _∷_, map}
-use Prim.Native.Nat.{ℕ}
+use Prim.Native.Nat.{ℕ, _+_}
 use borrow.Author.Tests.{le-ltb}
 use lib.ListN.{length}
 use Rattle.text.specs.Words.{bytes}
@@ -62,3 +62,16 @@ pub p-lines : All Holds lines
 p-lines =
     each (λ (c : Compared). map (comes (c .body)) (c .modes)) (λ (c : Compared). map (printed (bytes (c .line))) (c .modes))
     (λ (c : Compared). each (comes (c .body)) (printed (bytes (c .line))) (prints (bytes (c .line)) (c .body)) (c .modes)) lines computed
+
+-- A second hold on the table: document 01 marks 13 lines, and with their modes there are 24 pairs of body and mode.
+pub p-lines-rows : length lines ≡ 13
+unfolding lines
+p-lines-rows = refl
+
+abbrev total : List ℕ → ℕ
+total [] = 0
+total (n ∷ ns) = n + total ns
+
+pub p-lines-pairs : total (map (λ (c : Compared). length (c .modes)) lines) ≡ 24
+unfolding lines
+p-lines-pairs = refl
