@@ -7,9 +7,10 @@ use native.Mathlib.Nat.{zero-add}
 use native.Mathlib.Omega.{arith}
 use lib.ListN.{length}
 use borrow.Author.Tests.{lt-ltb, le-ltb, ne-eqb}
-use Rattle.text.specs.Write.{Put}
+use Rattle.text.specs.Code.{Put}
 use Rattle.answers.specs.Refusals.{room}
-use Rattle.answers.specs.Outcomes.{Outcome, outcomeOf, textOutcome, Gives}
+use Rattle.answers.specs.Outcomes.{Outcome, outcomeOf, Gives}
+use Rattle.answers.specs.Code.{textOutcome}
 use Rattle.answers.specs.declared.Answer.{Answer}
 
 module _ {a : ℕ} (text buf : List ℕ) where

@@ -3,3 +3,4 @@ pub mod Refusals
 pub mod Outcomes
 pub mod Table
 pub mod Lines
+pub mod Code

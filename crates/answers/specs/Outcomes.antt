@@ -35,10 +35,6 @@ unfoldable pub outcomeOf : ℕ → List ℕ → List ℕ → Outcome
 outcomeOf answer text buf =
     record { answer = answer; length = lengthWith answer text; buffer = bufferAfter answer text buf }
 
--- a text that nothing refuses but the room: printed where it has room
-unfoldable pub textOutcome : List ℕ → List ℕ → Outcome
-textOutcome text buf = outcomeOf (answerOf (refusal room (roomRefused text buf) ∷ [])) text buf
-
 -- the answer given, and the buffer left, are those of the outcome
 pub record Gives (o : Outcome) (given : Answer) (buffer : List ℕ) : Type 0 where
   pub answer : given .number ≡ o .answer

@@ -1,8 +1,9 @@
 // Answers: a number and a length. A refusal is its number, handed up as it is.
 ghost use Prim.Native.Nat.{_<_};
-ghost use Rattle.text.specs.Write.{Room, Put};
+ghost use Rattle.text.specs.Code.{Room, Put};
 ghost use Rattle.answers.specs.Lines.{decimal, refusedLine};
-ghost use Rattle.answers.specs.Outcomes.{textOutcome, Gives};
+ghost use Rattle.answers.specs.Outcomes.{Gives};
+ghost use Rattle.answers.specs.Code.{textOutcome};
 
 // Document 01's numbers.
 pub const PRINTED: u8 = 0;

@@ -53,9 +53,11 @@ use Rattle.names.specs.declared.Arm.the-variants.{
   Fbstp,
 }
 use Rattle.names.specs.Among.{isArm, isOneOf}
-use Rattle.arms.specs.Tests.{isBranch, isXbegin, lslSource, mmwordFor}
+use Rattle.arms.specs.Tests.{isBranch, isXbegin, lslSource}
+use Rattle.arms.specs.Code.{mmwordFor}
 use Rattle.arms.specs.Labels.{generalLabel}
-use Rattle.arms.specs.Plans.{plain, named, none, one, two, three, spread, general, generalBy, generally, planOf}
+use Rattle.arms.specs.Plans.{plain, named, none, one, two, three, spread, general, generally, planOf}
+use Rattle.arms.specs.Code.{generalBy}
 use Rattle.arms.specs.Size.{generalPath}
 use Rattle.names.proofs.ArmGroups.{tag, at-group, of-group, Each}
 

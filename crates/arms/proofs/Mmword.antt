@@ -9,7 +9,7 @@ use Rattle.names.specs.Among.{isArm, isOneOf}
 use Rattle.names.specs.declared.Arm.{Arm}
 use Rattle.names.specs.declared.Arm.the-variants.{Jmpf, Callf, Lds}
 use Rattle.arms.specs.Labels.{generalLabel}
-use Rattle.arms.specs.Plans.{generalBy}
+use Rattle.arms.specs.Code.{generalBy}
 
 -- vector registers are asked for at the size 8 alone
 pub label-at-8 : (mmword fword : Bool) (size : ℕ) → generalLabel (eqb size 8 && mmword) fword size ≡ generalLabel mmword fword size

@@ -5,3 +5,4 @@ pub mod Plans
 pub mod Shape
 pub mod Size
 pub mod Missing
+pub mod Code

@@ -132,12 +132,6 @@ generally i = general (byRegisters i false false) (i .size)
 abbrev pub movsLabel : Instruction → Label
 movsLabel i = generalLabel (hasVector i) false (i .size)
 
--- the general path by the arm, as the code makes it: 6 is `fword` in operand 0 of JMPF and CALLF and after operand 0 of LDS, LES, LFS,
--- LGS, and ds is not shown after operand 0 of MOVS
-unfoldable pub generalBy : Arm → (mmword : Bool) → ℕ → Plan
-generalBy arm mmword size =
-    spread (generalLabel mmword (isOneOf arm (Jmpf ∷ Callf ∷ [])) size) (generalLabel mmword (isArm arm Lds) size) (cond (isArm arm Movs) UnlessDs Own)
-
 -- the FADD arm: memory as operand 1 decides first; else `st` stands for st(0) in operand 0 where that is of kind 1, or in operand 1
 abbrev pub fadd : ℕ → Operand → Operand → Plan
 fadd size a b =

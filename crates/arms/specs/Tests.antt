@@ -27,7 +27,3 @@ lslSource a b = registerIn (bank (registerOf a)) (number (registerOf b))
 -- document 000's `size_is_mmword`, before it looks at the opcode: any of the record's operands is a register of banks 5 to 7
 abbrev pub hasVector : Instruction → Bool
 hasVector i = isVector (i .a) || isVector (i .b) || isVector (i .c) || isVector (i .d)
-
--- document 000's `size_is_mmword`: never for some opcodes, always for some, and for every other by its registers
-abbrev pub mmwordFor : Arm → Instruction → Bool
-mmwordFor arm i = not (isArm arm Qword) && (isArm arm Mmword || hasVector i)

@@ -3,21 +3,12 @@ ghost use mathlib.Core.Path.{_≡_};
 ghost use mathlib.Core.Bool.{false, _&&_};
 ghost use lib.Dec.{eqb};
 ghost use Rattle.bodies.specs.Body.{sizeOf};
-ghost use Rattle.bodies.specs.Refusals.{Whole};
+ghost use Rattle.bodies.specs.Code.{Whole};
 ghost use Rattle.bodies.specs.Decoding.{instructionOf};
 ghost use Rattle.arms.specs.Size.{generalPath};
-ghost use Rattle.arms.specs.Tests.{mmwordFor};
-ghost use Rattle.arms.specs.Plans.{
-  plain as plainPlace,
-  st as stPlace,
-  four as fourPlaces,
-  three as threePlaces,
-  two as twoPlaces,
-  one as onePlace,
-  none as noPlace,
-  generalBy,
-  planOf,
-};
+ghost use Rattle.arms.specs.Code.{mmwordFor};
+ghost use Rattle.arms.specs.Plans.{plain as plainPlace, st as stPlace, four as fourPlaces, three as threePlaces, two as twoPlaces, one as onePlace, none as noPlace, planOf};
+ghost use Rattle.arms.specs.Code.{generalBy};
 use crate::labels::general_label;
 use crate::labels::lss_label;
 use crate::labels::size_label;

@@ -1,6 +1,6 @@
 // Answer 4: which records are refused for the shape of their operands.
 ghost use mathlib.Core.Path.{_≡_};
-ghost use Rattle.bodies.specs.Refusals.{Whole};
+ghost use Rattle.bodies.specs.Code.{Whole};
 ghost use Rattle.bodies.specs.Decoding.{operandAt, instructionOf};
 ghost use Rattle.arms.specs.Shape.{lslRefused, faddRefused, fbldRefused, shapeRefused};
 use crate::tests::is_bank_0_at;

@@ -2,7 +2,7 @@
 ghost use mathlib.Core.Path.{_≡_};
 ghost use Prim.Native.Nat.{_≤_};
 ghost use Rattle.bodies.specs.Body.{countOf};
-ghost use Rattle.bodies.specs.Refusals.{Whole};
+ghost use Rattle.bodies.specs.Code.{Whole};
 ghost use Rattle.bodies.specs.Decoding.{instructionOf};
 ghost use Rattle.arms.specs.Missing.{placeLacks, planLacks};
 use bodies::kinds::is_memory_at;

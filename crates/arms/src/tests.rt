@@ -1,7 +1,7 @@
 // What arms test of a body: the registers among its operands, by their bytes, and whether it takes the general path.
 ghost use mathlib.Core.Path.{_≡_};
 ghost use Rattle.operands.specs.Parts.{isVector, isBank0};
-ghost use Rattle.bodies.specs.Refusals.{Whole};
+ghost use Rattle.bodies.specs.Code.{Whole};
 ghost use Rattle.bodies.specs.Decoding.{operandAt, instructionOf};
 ghost use Rattle.arms.specs.Tests.{lslSource, hasVector};
 ghost use Rattle.arms.specs.Size.{generalPath};

@@ -8,7 +8,8 @@ use lib.Dec.{eqb, ltb}
 use lib.ListN.{length}
 use borrow.Author.Tests.{ltb-false, eqb-true, not-false}
 use Rattle.bodies.specs.Body.{countOf}
-use Rattle.bodies.specs.Refusals.{lengthRefused, Whole}
+use Rattle.bodies.specs.Refusals.{lengthRefused}
+use Rattle.bodies.specs.Code.{Whole}
 use Rattle.bodies.proofs.Picks.{neither-left, neither-right}
 
 pub whole : (body : List ℕ) → lengthRefused body ≡ false → Whole body

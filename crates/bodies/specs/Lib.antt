@@ -3,3 +3,4 @@ pub mod Body
 pub mod Refusals
 pub mod Decoding
 pub mod WellFormed
+pub mod Code

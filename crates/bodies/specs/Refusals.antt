@@ -20,11 +20,6 @@ lengthRefused body = ltb (length body) 14 || not (eqb (length body) (14 + 5 * co
 abbrev pub longestBody : ℕ
 longestBody = 14 + 5 * 255
 
--- what a length that is not refused says: the fixed fields are there, and so are the stored operands' bytes, and no more
-pub record Whole (body : List ℕ) : Type 0 where
-  pub fixed : 14 ≤ length body
-  pub stored : length body ≡ 14 + 5 * countOf body
-
 -- "Scale .. is 1, 2, 4 or 8."
 abbrev pub isScale : ℕ → Bool
 isScale scale = eqb scale 1 || eqb scale 2 || eqb scale 4 || eqb scale 8

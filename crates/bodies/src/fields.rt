@@ -1,6 +1,6 @@
 // The fields of a body whose length is right.
 ghost use mathlib.Core.Path.{_≡_};
-ghost use Rattle.bodies.specs.Refusals.{Whole};
+ghost use Rattle.bodies.specs.Code.{Whole};
 ghost use Rattle.bodies.specs.Body.{opcodeOf, flagsOf, lengthOf, sizeOf, immOf, dispOf, countOf};
 
 pub fn opcode(body: &[u8]) -> u16

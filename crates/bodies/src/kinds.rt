@@ -2,7 +2,7 @@
 ghost use mathlib.Core.Path.{_≡_};
 ghost use Rattle.operands.specs.Kinds.{isAbsent, isRegister, isRegisterR, isRegisterM, isMemory};
 ghost use Rattle.operands.specs.Parts.{registerOf, immediateKind, immediateOf};
-ghost use Rattle.bodies.specs.Refusals.{Whole};
+ghost use Rattle.bodies.specs.Code.{Whole};
 ghost use Rattle.bodies.specs.Decoding.{operandAt};
 use crate::fields;
 use crate::numbers;

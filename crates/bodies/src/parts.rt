@@ -1,6 +1,6 @@
 // The parts of an accepted body.
 ghost use mathlib.Core.Path.{_≡_};
-ghost use Rattle.bodies.specs.Refusals.{Whole};
+ghost use Rattle.bodies.specs.Code.{Whole};
 ghost use Rattle.bodies.specs.Decoding.{addressOf, operandOf, operandAt};
 use crate::fields;
 use crate::numbers;

@@ -1,15 +1,7 @@
 // Document 01's record rules: which bodies are refused.
 ghost use mathlib.Core.Path.{_≡_};
-ghost use Rattle.bodies.specs.Refusals.{
-  Whole,
-  lengthRefused,
-  fieldRefused,
-  operandRefused,
-  segmentKept,
-  firstKept,
-  secondKept,
-  scaleKept,
-};
+ghost use Rattle.bodies.specs.Refusals.{lengthRefused, fieldRefused, operandRefused, segmentKept, firstKept, secondKept, scaleKept};
+ghost use Rattle.bodies.specs.Code.{Whole};
 use names::opcodes::OPCODES;
 
 // The longest body whose length can be right: the count is a byte.

@@ -11,7 +11,8 @@ use lib.ListN.{length, getD, take, drop, length-drop}
 use lib.Seq.{getD-drop, drop-drop}
 use borrow.Author.Tests.{le-leb, lt-leb, leb-true}
 use Rattle.frames.specs.Numbers.{word}
-use Rattle.frames.specs.Frames.{bodyLength, isWhole, bodyOf, frameSize, frameAt}
+use Rattle.frames.specs.Frames.{bodyLength, isWhole, bodyOf, frameSize}
+use Rattle.frames.specs.Code.{frameAt}
 use Rattle.frames.specs.declared.Frame.{Frame}
 use Rattle.frames.specs.declared.Frame.the-variants.{Whole, Cut}
 

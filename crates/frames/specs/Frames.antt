@@ -25,10 +25,6 @@ bodyOf xs = take (bodyLength xs) (drop 2 xs)
 abbrev pub frameSize : List ℕ → ℕ
 frameSize xs = cond (isWhole xs) (2 + bodyLength xs) (length xs)
 
--- what stands at a place of a listing: a whole frame, by the places of its body, or too few bytes for one
-abbrev pub frameAt : List ℕ → ℕ → Frame
-frameAt listing at = cond (isWhole (drop at listing)) (Whole (at + 2) (at + 2 + bodyLength (drop at listing))) Cut
-
 -- "one version byte, 1, then records"
 abbrev pub knownVersion : ℕ → Bool
 knownVersion version = eqb version 1

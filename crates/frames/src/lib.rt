@@ -2,7 +2,8 @@
 ghost use mathlib.Core.Path.{_≡_};
 ghost use Prim.Native.Nat.{_≤_};
 ghost use lib.ListN.{length};
-ghost use Rattle.frames.specs.Frames.{frameAt, knownVersion};
+ghost use Rattle.frames.specs.Frames.{knownVersion};
+ghost use Rattle.frames.specs.Code.{frameAt};
 
 pub mod numbers;
 

@@ -16,7 +16,8 @@ use Rattle.places.specs.Order.{isNothing, fromTheLeft}
 use Rattle.places.specs.Places.{itemAt, itemsAt}
 use Rattle.places.specs.declared.Place.{Place}
 use Rattle.places.specs.declared.Plan.{Plan}
-use Rattle.lines.specs.Text.{shows, partedText, itemsText, itemsFrom}
+use Rattle.lines.specs.Text.{shows, partedText, itemsText}
+use Rattle.lines.specs.Code.{itemsFrom}
 use Rattle.lines.specs.Code.{placeAt}
 
 shows-not-nothing : (x : Shown) → isNothing x ≡ not (shows x)

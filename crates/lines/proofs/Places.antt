@@ -45,7 +45,8 @@ use Rattle.lines.specs.Fronts.{labelText, segmentText}
 use Rattle.lines.specs.Brackets.{bracketText}
 use Rattle.lines.specs.Items.{absoluteText, branchText, shownText, itemText}
 use Rattle.lines.specs.Head.{headOf}
-use Rattle.lines.specs.Text.{headText, shows, partedText, itemsText, itemsFrom, lineText, lineBy}
+use Rattle.lines.specs.Text.{headText, shows, partedText, itemsText, lineText, lineBy}
+use Rattle.lines.specs.Code.{itemsFrom}
 use Rattle.lines.specs.Code.{shownSegment, frontText, registerText, placeAt, separatorAt}
 
 -- a table's end may have an empty word more

@@ -1,7 +1,7 @@
 -- What single functions of the code are asked for, and no promise: names for parts of the texts.
 -- Assumes nothing.
 use mathlib.Core.Bool.{Bool, cond, _&&_}
-use mathlib.Core.List.{List, _++_}
+use mathlib.Core.List.{List, [], _++_}
 use Prim.Native.Nat.{ℕ, zero, suc}
 use lib.Dec.{eqb}
 use Rattle.text.specs.Words.{bytes}
@@ -13,7 +13,9 @@ use Rattle.places.specs.declared.Segment.the-variants.{Hidden, Shown, UnlessDs}
 use Rattle.places.specs.declared.Place.{Place}
 use Rattle.places.specs.declared.Place.the-variants.{Nothing}
 use Rattle.places.specs.declared.Plan.{Plan}
+use Rattle.operands.specs.declared.Items.{Items}
 use Rattle.lines.specs.Fronts.{segmentText}
+use Rattle.lines.specs.Text.{partedText, itemsText}
 
 -- the segment that a place shows of one that an operand has
 abbrev pub shownSegment : Segment → ℕ → ℕ
@@ -40,3 +42,11 @@ placeAt plan (suc (suc (suc (suc k)))) = Nothing
 -- what parts the operand at place k from the text before it
 abbrev pub separatorAt : ℕ → List ℕ
 separatorAt k = cond (eqb k 0) (bytes " ") (bytes ", ")
+
+-- the operands from number k on
+abbrev pub itemsFrom : ℕ → Items → List ℕ
+itemsFrom zero is = itemsText is
+itemsFrom (suc zero) is = partedText (bytes ", ") (is .b) ++ (partedText (bytes ", ") (is .c) ++ partedText (bytes ", ") (is .d))
+itemsFrom (suc (suc zero)) is = partedText (bytes ", ") (is .c) ++ partedText (bytes ", ") (is .d)
+itemsFrom (suc (suc (suc zero))) is = partedText (bytes ", ") (is .d)
+itemsFrom (suc (suc (suc (suc k)))) is = []

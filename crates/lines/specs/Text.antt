@@ -62,14 +62,6 @@ itemsText is =
     partedText (bytes " ") (is .a)
     ++ (partedText (bytes ", ") (is .b) ++ (partedText (bytes ", ") (is .c) ++ partedText (bytes ", ") (is .d)))
 
--- the operands from number k on
-abbrev pub itemsFrom : ℕ → Items → List ℕ
-itemsFrom zero is = itemsText is
-itemsFrom (suc zero) is = partedText (bytes ", ") (is .b) ++ (partedText (bytes ", ") (is .c) ++ partedText (bytes ", ") (is .d))
-itemsFrom (suc (suc zero)) is = partedText (bytes ", ") (is .c) ++ partedText (bytes ", ") (is .d)
-itemsFrom (suc (suc (suc zero))) is = partedText (bytes ", ") (is .d)
-itemsFrom (suc (suc (suc (suc k)))) is = []
-
 unfoldable pub lineText : Line → List ℕ
 lineText l = headText (l .head) ++ itemsText (l .items)
 

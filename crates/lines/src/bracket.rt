@@ -1,6 +1,6 @@
 // A bracket: the parts that the operand's kind has, in document 01's order.
 ghost use Rattle.names.specs.Registers.{RegisterTable};
-ghost use Rattle.text.specs.Write.{Room, Put};
+ghost use Rattle.text.specs.Code.{Room, Put};
 ghost use Rattle.lines.specs.Brackets.{baseText, scaleText, indexedText, indexText, tailText, bracketText};
 use names::registers::Letters;
 use names::registers::Starts;

@@ -6,7 +6,8 @@ use mathlib.Core.List.{List}
 use Prim.Native.Nat.{ℕ}
 use Rattle.frames.specs.Frames.{isWhole, bodyOf}
 use Rattle.records.specs.declared.Asked.{Asked}
-use Rattle.records.specs.Lines.{recordLine, textOf}
+use Rattle.records.specs.Lines.{recordLine}
+use Rattle.records.specs.Judged.{textOf}
 use Rattle.listings.specs.Lines.{cutLine, frontLine}
 
 pub front-whole : (asked : Asked) (xs : List ℕ) → isWhole xs ≡ true → frontLine asked xs ≡ recordLine asked (bodyOf xs)

@@ -10,7 +10,8 @@ use lib.Dec.{ltb, eqb}
 use lib.ListN.{length, getD, drop}
 use borrow.Author.Tests.{lt-ltb, le-ltb}
 use Rattle.frames.specs.Frames.{knownVersion}
-use Rattle.answers.specs.Outcomes.{textOutcome, Gives}
+use Rattle.answers.specs.Outcomes.{Gives}
+use Rattle.answers.specs.Code.{textOutcome}
 use Rattle.records.specs.declared.Asked.{Asked}
 use Rattle.answers.proofs.Outcomes.{gives-refused}
 use Rattle.listings.specs.Lines.{cutLine, versionLine, linesOf, listingText}

@@ -6,7 +6,8 @@ use Prim.Native.Nat.{ℕ, _+_, _-_, _*_, _≤_, _<_}
 use native.Mathlib.Omega.{arith}
 use lib.ListN.{length, drop, length-append, length-drop}
 use lib.Seq.{drop-drop, drop-length}
-use Rattle.text.specs.Write.{write, Room, Put}
+use Rattle.text.specs.Write.{write}
+use Rattle.text.specs.Code.{Room, Put}
 use Rattle.text.proofs.Writing.{write-none, write-write}
 use Rattle.text.proofs.Putting.{put-length}
 use Rattle.frames.specs.Frames.{frameSize}

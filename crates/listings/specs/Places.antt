@@ -4,7 +4,7 @@ use mathlib.Core.Path.{_≡_}
 use mathlib.Core.List.{List}
 use Prim.Native.Nat.{ℕ, _+_}
 use lib.ListN.{length, drop}
-use Rattle.text.specs.Write.{Put}
+use Rattle.text.specs.Code.{Put}
 use Rattle.frames.specs.Frames.{frameSize}
 use Rattle.records.specs.declared.Asked.{Asked}
 use Rattle.listings.specs.Lines.{frontLine}
@@ -13,8 +13,3 @@ use Rattle.listings.specs.Lines.{frontLine}
 pub record Stepped (asked : Asked) (listing : List ℕ) (at : ℕ) (before : List ℕ) (out next-at next-out : ℕ) (after : List ℕ) : Type 0 where
   pub place : next-at ≡ at + frameSize (drop at listing)
   pub put : Put before out (frontLine asked (drop at listing)) next-out after
-
--- the line in front was measured
-pub record Measured (asked : Asked) (listing : List ℕ) (at next-at long : ℕ) : Type 0 where
-  pub place : next-at ≡ at + frameSize (drop at listing)
-  pub size : long ≡ length (frontLine asked (drop at listing))

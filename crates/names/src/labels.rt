@@ -1,6 +1,6 @@
 // The size labels, by their place in the list of labels. The tables are lent.
 ghost use mathlib.Core.Path.{_≡_};
-ghost use Rattle.text.specs.Write.{Room, Put};
+ghost use Rattle.text.specs.Code.{Room, Put};
 ghost use Rattle.text.specs.Words.{join, starts as startsOf};
 ghost use Rattle.names.specs.Labels.{labels, labelWord, LabelTable};
 use text::words;

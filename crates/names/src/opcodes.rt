@@ -1,6 +1,6 @@
 // The opcodes: their names, as one text with an offset for each, and the arm of document 000 that prints each. The tables are lent.
 ghost use mathlib.Core.Path.{_≡_};
-ghost use Rattle.text.specs.Write.{Room, Put};
+ghost use Rattle.text.specs.Code.{Room, Put};
 ghost use Rattle.text.specs.Words.{join, starts as startsOf};
 ghost use Rattle.names.specs.Opcodes.{mnemonics, mnemonic, armOf, MnemonicTable, ArmTable};
 use crate::Arm;

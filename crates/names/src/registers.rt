@@ -1,6 +1,6 @@
 // The register names, by register byte. The tables are lent.
 ghost use mathlib.Core.Path.{_≡_};
-ghost use Rattle.text.specs.Write.{Room, Put};
+ghost use Rattle.text.specs.Code.{Room, Put};
 ghost use Rattle.text.specs.Words.{join, starts as startsOf};
 ghost use Rattle.names.specs.Registers.{registers, registerName, RegisterTable};
 use text::words;

@@ -1,6 +1,6 @@
 // The segment names, by segment number.
 ghost use mathlib.Core.Path.{_≡_};
-ghost use Rattle.text.specs.Write.{Room, Put};
+ghost use Rattle.text.specs.Code.{Room, Put};
 ghost use Rattle.text.specs.Words.{join, starts as startsOf, Table};
 ghost use Rattle.names.specs.Registers.{segments, segmentName};
 use text::words;

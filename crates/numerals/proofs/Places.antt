@@ -7,9 +7,11 @@ use native.Mathlib.Nat.{not-suc-le-zero}
 use native.Mathlib.Numerals.{add-one}
 use native.Mathlib.Omega.{arith}
 use lib.ListN.{length, set, length-append}
-use Rattle.text.specs.Write.{write, Put}
+use Rattle.text.specs.Write.{write}
+use Rattle.text.specs.Code.{Put}
 use Rattle.text.proofs.Writing.{write-none, write-last}
-use Rattle.numerals.specs.Digits.{digit, digits, places, top, TopOf}
+use Rattle.numerals.specs.Digits.{digit, digits, places, top}
+use Rattle.numerals.specs.Code.{TopOf}
 
 pub length-digits : (k v : ℕ) → length (digits k v) ≡ k
 unfolding digits

@@ -11,7 +11,8 @@ use lib.ListN.{length, length-append}
 use Rattle.text.specs.Choice.{when}
 use Rattle.text.specs.Words.{bytes}
 use Rattle.text.proofs.Choosing.{length-when}
-use Rattle.numerals.specs.Digits.{digits, places, top, TopOf}
+use Rattle.numerals.specs.Digits.{digits, places, top}
+use Rattle.numerals.specs.Code.{TopOf}
 use Rattle.numerals.specs.Numerals.{needsLeading0, hexAmbiguous, figure, numeral, sign, displacement, absolute}
 use Rattle.numerals.proofs.Places.{length-digits}
 

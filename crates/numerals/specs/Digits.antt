@@ -27,9 +27,3 @@ places v = placesFrom 1 7 v
 -- the top one of k digits
 abbrev pub top : ℕ → ℕ → ℕ
 top k v = v / 16 ^ (k - 1)
-
--- `n` is the number of places of v, and `d` the top digit
-pub record TopOf (v n d : ℕ) : Type 0 where
-  pub count : n ≡ places v
-  pub first : d ≡ top (places v) v
-  pub few : n ≤ 8

@@ -1,6 +1,6 @@
 // An absolute: all its digits, and always an h.
 ghost use mathlib.Core.Path.{_≡_};
-ghost use Rattle.text.specs.Write.{Room, Put};
+ghost use Rattle.text.specs.Code.{Room, Put};
 ghost use Rattle.numerals.specs.Digits.{top};
 ghost use Rattle.numerals.specs.Numerals.{absolute as absoluteOf};
 use crate::numeral;

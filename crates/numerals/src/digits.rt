@@ -1,8 +1,9 @@
 // The digits of a number, and how many it takes.
 ghost use mathlib.Core.Path.{_≡_};
 ghost use Prim.Native.Nat.{_<_};
-ghost use Rattle.text.specs.Write.{Room, Put};
-ghost use Rattle.numerals.specs.Digits.{digit as digitOf, digits as digitsOf, TopOf};
+ghost use Rattle.text.specs.Code.{Room, Put};
+ghost use Rattle.numerals.specs.Digits.{digit as digitOf, digits as digitsOf};
+ghost use Rattle.numerals.specs.Code.{TopOf};
 
 // How many digits a numeral has, and its top one.
 pub struct Top {

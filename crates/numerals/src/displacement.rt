@@ -3,7 +3,7 @@ ghost use mathlib.Core.Path.{_≡_};
 ghost use lib.IntN.{natAbs};
 ghost use mir.Syntax.{w32};
 ghost use mir.Val.{SFits};
-ghost use Rattle.text.specs.Write.{Room, Put};
+ghost use Rattle.text.specs.Code.{Room, Put};
 ghost use Rattle.numerals.specs.Numerals.{sign, displacement as displacementOf};
 use crate::numeral;
 

@@ -1,7 +1,7 @@
 // The numeral of a number of 32 bits.
 ghost use mathlib.Core.Path.{_≡_};
 ghost use lib.Dec.{leb};
-ghost use Rattle.text.specs.Write.{Room, Put};
+ghost use Rattle.text.specs.Code.{Room, Put};
 ghost use Rattle.numerals.specs.Digits.{top};
 ghost use Rattle.numerals.specs.Numerals.{figure, hexAmbiguous, numeral as numeralOf};
 use crate::digits;

@@ -10,7 +10,8 @@ use borrow.Author.Tests.{eqb-true, eqb-false, ltb-false}
 use Rattle.answers.specs.Refusals.{answerOf, room, None, Numbered}
 use Rattle.answers.proofs.Firsts.{numbered-by, answer-below, answer-not, none-or-answer}
 use Rattle.bodies.specs.Body.{countOf}
-use Rattle.bodies.specs.Refusals.{lengthRefused, fieldRefused, Whole}
+use Rattle.bodies.specs.Refusals.{lengthRefused, fieldRefused}
+use Rattle.bodies.specs.Code.{Whole}
 use Rattle.bodies.specs.Decoding.{instructionOf}
 use Rattle.bodies.proofs.Lengths.{whole}
 use Rattle.bodies.proofs.Picks.{neither-left, neither-right}

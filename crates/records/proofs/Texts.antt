@@ -10,11 +10,12 @@ use native.Mathlib.Omega.{arith}
 use lib.ListN.{length, take}
 use borrow.Author.Tests.{ne-eqb}
 use Rattle.text.specs.Choice.{when}
-use Rattle.text.specs.Write.{Put}
+use Rattle.text.specs.Code.{Put}
 use Rattle.text.proofs.Putting.{put-as}
 use Rattle.text.proofs.Writing.{write-none, take-write}
 use Rattle.answers.specs.Refusals.{answerOf, room}
-use Rattle.answers.specs.Outcomes.{textOutcome, Gives}
+use Rattle.answers.specs.Outcomes.{Gives}
+use Rattle.answers.specs.Code.{textOutcome}
 use Rattle.answers.specs.Lines.{newline, refusedLine}
 use Rattle.answers.proofs.Unique.{none-or-some}
 use Rattle.answers.proofs.Firsts.{answer-append, answer-before}
@@ -27,7 +28,8 @@ use Rattle.branches.specs.declared.Mode.{Mode}
 use Rattle.lines.specs.Text.{lineBy, lineText, longestLine}
 use Rattle.lines.proofs.Short.{line-short}
 use Rattle.records.specs.Records.{modeOf, armAt, refusals, lineAt, recordText, recordOutcome}
-use Rattle.records.specs.Lines.{recordLine, textOf}
+use Rattle.records.specs.Lines.{recordLine}
+use Rattle.records.specs.Judged.{textOf}
 use Rattle.records.specs.declared.Asked.{Asked}
 use Rattle.records.proofs.Judging.{refusals-numbered, refusals-not-room}
 

@@ -5,12 +5,13 @@ use mathlib.Core.List.{List}
 use mathlib.Core.Path.{_≡_}
 use Prim.Native.Nat.{ℕ}
 use lib.Dec.{eqb}
-use Rattle.text.specs.Write.{Put}
+use Rattle.text.specs.Code.{Put}
 use Rattle.answers.specs.Refusals.{answerOf}
 use Rattle.bodies.specs.Decoding.{instructionOf}
 use Rattle.arms.specs.Plans.{planOf}
-use Rattle.records.specs.Lines.{textOf}
-use Rattle.records.specs.Records.{armAt, refusals}
+use Rattle.text.specs.Choice.{when}
+use Rattle.records.specs.Lines.{recordLine}
+use Rattle.records.specs.Records.{armAt, refusals, recordText}
 use Rattle.records.specs.declared.Asked.{Asked}
 use Rattle.records.specs.declared.Judged.{Judged}
 use Rattle.records.specs.declared.Judged.the-variants.{Refused, Accepted}
@@ -21,6 +22,15 @@ judgedAs answer body =
 
 unfoldable pub judged : Asked → List ℕ → Judged
 judged asked body = judgedAs (answerOf (refusals asked body)) body
+
+-- alone a record has its text, and none where it is refused
+abbrev pub aloneWith : ℕ → List ℕ → List ℕ
+aloneWith answer text = when (eqb answer 0) text
+
+-- the text of a record, alone or in a listing
+unfoldable pub textOf : (alone : Bool) → Asked → List ℕ → List ℕ
+textOf alone asked body =
+    cond alone (aloneWith (answerOf (refusals asked body)) (recordText asked body)) (recordLine asked body)
 
 -- what was put of a record: its answer before there is a buffer, and its text
 pub record Puts (alone : Bool) (asked : Asked) (body before : List ℕ) (at number out : ℕ) (after : List ℕ) : Type 0 where

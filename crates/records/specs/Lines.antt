@@ -16,12 +16,3 @@ lineWith answer text = cond (eqb answer 0) (text ++ newline) (refusedLine answer
 
 unfoldable pub recordLine : Asked → List ℕ → List ℕ
 recordLine asked body = lineWith (answerOf (refusals asked body)) (recordText asked body)
-
--- alone a record has its text, and none where it is refused
-abbrev pub aloneWith : ℕ → List ℕ → List ℕ
-aloneWith answer text = when (eqb answer 0) text
-
--- the text of a record, alone or in a listing
-unfoldable pub textOf : (alone : Bool) → Asked → List ℕ → List ℕ
-textOf alone asked body =
-    cond alone (aloneWith (answerOf (refusals asked body)) (recordText asked body)) (recordLine asked body)

@@ -1,10 +1,10 @@
 // A record at a place of a lent buffer: alone, or as a line of a listing.
 ghost use mathlib.Core.Path.{_≡_};
-ghost use Rattle.text.specs.Write.{Room, Put};
+ghost use Rattle.text.specs.Code.{Room, Put};
 ghost use Rattle.names.specs.Opcodes.{MnemonicTable, ArmTable};
 ghost use Rattle.names.specs.Registers.{RegisterTable};
 ghost use Rattle.names.specs.Labels.{LabelTable};
-ghost use Rattle.records.specs.Lines.{textOf};
+ghost use Rattle.records.specs.Judged.{textOf};
 ghost use Rattle.records.specs.Judged.{Puts};
 use crate::Asked;
 use crate::Judged;

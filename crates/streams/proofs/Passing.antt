@@ -8,13 +8,15 @@ use native.Mathlib.Omega.{arith}
 use lib.Dec.{lit≤}
 use lib.ListN.{length, take, drop, length-append, length-drop}
 use lib.Seq.{take-length, drop-drop}
-use Rattle.text.specs.Write.{write, Room, Put}
+use Rattle.text.specs.Write.{write}
+use Rattle.text.specs.Code.{Room, Put}
 use Rattle.text.proofs.Putting.{put-none, put-length, and-then}
 use Rattle.text.proofs.Writing.{write-none}
 use Rattle.lines.specs.Text.{longestLine}
 use Rattle.records.specs.declared.Asked.{Asked}
 use Rattle.records.proofs.Texts.{put-front}
-use Rattle.streams.specs.Stream.{Taken, stepped, Alive, Took}
+use Rattle.streams.specs.Stream.{Taken, stepped, Alive}
+use Rattle.streams.specs.Code.{Took}
 use Rattle.streams.specs.Pass.{Steps, nextAt, lastLine, Passes}
 use Rattle.streams.specs.Pass.Steps.{none, more}
 use Rattle.streams.specs.Pass.Follows.{full, rests}

@@ -15,7 +15,8 @@ use Rattle.answers.proofs.Unique.{none-or-some}
 use Rattle.bodies.specs.WellFormed.{Bytes}
 use Rattle.records.specs.declared.Asked.{Asked}
 use Rattle.listings.specs.Lines.{cutLine, listingText}
-use Rattle.streams.specs.Stream.{stepped, Alive, cutAt, remaining, Streams}
+use Rattle.streams.specs.Stream.{stepped, Alive, cutAt, Streams}
+use Rattle.streams.specs.Code.{remaining}
 use Rattle.streams.specs.Stream.Streams.{read, step, end}
 use Rattle.streams.specs.Pass.{Steps, nextAt, lastLine, Rests, Follows, Passes}
 use Rattle.streams.specs.Pass.Steps.{none as no-step, more as step-more}

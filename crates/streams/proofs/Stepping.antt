@@ -10,7 +10,7 @@ use lib.ListN.{length, getD, take, drop, length-append}
 use lib.Dec.{eqb, ltb, lit≤}
 use borrow.Author.Tests.{lt-ltb, le-ltb, ltb-true, ltb-false}
 use Rattle.text.proofs.Choosing.{cond-by}
-use Rattle.text.specs.Write.{Put}
+use Rattle.text.specs.Code.{Put}
 use Rattle.text.proofs.Putting.{put-as}
 use Rattle.answers.specs.Refusals.{answerOf, length as lengthNumber}
 use Rattle.answers.specs.Lines.{newline, refusedLine}
@@ -22,11 +22,13 @@ use Rattle.bodies.specs.Refusals.{longestBody}
 use Rattle.lines.specs.Text.{longestLine}
 use Rattle.records.specs.declared.Asked.{Asked}
 use Rattle.records.specs.Records.{refusals, recordText}
-use Rattle.records.specs.Lines.{recordLine, textOf}
+use Rattle.records.specs.Lines.{recordLine}
+use Rattle.records.specs.Judged.{textOf}
 use Rattle.records.specs.Judged.{Puts}
 use Rattle.records.proofs.RecordLines.{record-line-short}
 use Rattle.listings.specs.Lines.{versionLine}
-use Rattle.streams.specs.Stream.{Taken, taken, ended, refusedBy, versionStep, frameStep, skipStep, stepped, Alive, Took}
+use Rattle.streams.specs.Stream.{Taken, taken, ended, refusedBy, versionStep, frameStep, skipStep, stepped, Alive}
+use Rattle.streams.specs.Code.{Took}
 use Rattle.streams.specs.declared.Step.{Step}
 use Rattle.streams.specs.declared.Stage.{Stage}
 use Rattle.streams.specs.declared.Stage.the-variants.{Version, Frames, Skip, Done}

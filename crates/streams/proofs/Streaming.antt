@@ -25,7 +25,8 @@ use Rattle.records.specs.Records.{refusals}
 use Rattle.records.specs.Lines.{recordLine}
 use Rattle.records.proofs.Texts.{line-refused}
 use Rattle.listings.specs.Lines.{cutLine, linesOf, listingText}
-use Rattle.streams.specs.Stream.{Taken, taken, ended, refusedBy, versionStep, frameStep, stepped, Alive, cutAt, remaining, Streams}
+use Rattle.streams.specs.Stream.{Taken, taken, ended, refusedBy, versionStep, frameStep, stepped, Alive, cutAt, Streams}
+use Rattle.streams.specs.Code.{remaining}
 use Rattle.streams.specs.Stream.Streams.{read, step, end}
 use Rattle.streams.specs.declared.Stage.{Stage}
 use Rattle.streams.specs.declared.Stage.the-variants.{Version, Frames, Skip, Done}

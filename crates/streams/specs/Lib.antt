@@ -3,3 +3,4 @@ pub mod Stream
 pub mod Pass
 pub mod Runs
 pub mod Counts
+pub mod Code

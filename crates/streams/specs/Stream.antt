@@ -7,7 +7,7 @@ use Prim.Native.Nat.{ℕ, _+_, _-_, _≤_, _<_}
 use lib.Dec.{ltb, eqb}
 use lib.ListN.{length, drop}
 use Rattle.text.specs.Choice.{when}
-use Rattle.text.specs.Write.{Put}
+use Rattle.text.specs.Code.{Put}
 use Rattle.frames.specs.Frames.{bodyLength, bodyOf, knownVersion}
 use Rattle.bodies.specs.Refusals.{longestBody}
 use Rattle.answers.specs.Lines.{refusedLine}
@@ -86,21 +86,6 @@ begunOf Version = 0
 begunOf Frames = 0
 begunOf (Skip left size) = size - left
 begunOf Done = 0
-
--- the code's step is that step
-pub record Took (t : Taken) (before : List ℕ) (out : ℕ) (step : Step) (after : List ℕ) : Type 0 where
-  pub stage-is : step .stage ≡ t .stage
-  pub used-is : step .used ≡ t .used
-  pub records-is : step .records ≡ t .records
-  pub refused-is : step .refused ≡ t .refused
-  pub put : Put before out (t .says) (step .out) after
-
--- what a listing still has to say from a stage on, if all that is to come is xs: the definition, in parts
-unfoldable pub remaining : Asked → Stage → List ℕ → List ℕ
-remaining asked Version xs = listingText asked xs
-remaining asked Frames xs = linesOf asked xs
-remaining asked (Skip left size) xs = cond (ltb (length xs) left) cutLine (refusedLine lengthNumber ++ linesOf asked (drop left xs))
-remaining asked Done xs = []
 
 -- The input cut into reads in any way, and what the steps write. `held` are the bytes that are there.
 --   read: more bytes come; step: a step is taken; end: no bytes come any more, and no step uses any

@@ -3,12 +3,13 @@
 ghost use mathlib.Core.Path.{_≡_};
 ghost use Prim.Native.Nat.{_+_, _≤_};
 ghost use lib.ListN.{length};
-ghost use Rattle.text.specs.Write.{Room, Put};
+ghost use Rattle.text.specs.Code.{Room, Put};
 ghost use Rattle.names.specs.Opcodes.{MnemonicTable, ArmTable};
 ghost use Rattle.names.specs.Registers.{RegisterTable};
 ghost use Rattle.names.specs.Labels.{LabelTable};
 ghost use Rattle.lines.specs.Text.{longestLine};
-ghost use Rattle.streams.specs.Stream.{Took, versionStep, skipStep, frameStep, stepped, refusedBy, Alive, begunOf};
+ghost use Rattle.streams.specs.Stream.{versionStep, skipStep, frameStep, stepped, refusedBy, Alive, begunOf};
+ghost use Rattle.streams.specs.Code.{Took};
 use crate::Stage;
 use crate::Step;
 use answers::LENGTH;

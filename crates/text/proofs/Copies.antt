@@ -7,8 +7,9 @@ use native.Mathlib.Nat.{add-sub-cancel-left}
 use native.Mathlib.Omega.{arith}
 use lib.ListN.{length, getD, set, take, drop, length-append, length-drop, length-set}
 use lib.Seq.{take-add, take-suc, drop-drop, drop-cons, getD-drop}
-use Rattle.text.specs.Write.{write, Room, Put}
-use Rattle.text.specs.Words.{part, wordAt, Stands}
+use Rattle.text.specs.Write.{write}
+use Rattle.text.specs.Code.{Room, Put}
+use Rattle.text.specs.Code.{part, wordAt, Stands}
 use Rattle.text.proofs.Writing.{length-write, write-byte, write-next, write-over}
 use Rattle.text.proofs.Tables.{length-part, length-word}
 

@@ -7,7 +7,8 @@ use native.Mathlib.Nat.{add-assoc, add-zero}
 use native.Mathlib.Omega.{arith}
 use lib.ListN.{length, set, take, length-append}
 use lib.Seq.{take-length}
-use Rattle.text.specs.Write.{write, Room, Put}
+use Rattle.text.specs.Write.{write}
+use Rattle.text.specs.Code.{Room, Put}
 use Rattle.text.proofs.Writing.{write-none, write-byte, length-write, write-write}
 
 -- where two texts have room, the first has

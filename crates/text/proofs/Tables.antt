@@ -10,8 +10,9 @@ use native.Mathlib.Omega.{arith}
 use lib.Dec.{T, T-not, eqb, eqb-refl, leb, leb→le}
 use lib.ListN.{length, getD, take, drop, length-append, length-drop, List·getD-eq-default}
 use lib.Seq.{length-take-le, take-append-seam, drop-append-seam, drop-at}
-use Rattle.text.specs.Write.{Room, Put}
-use Rattle.text.specs.Words.{join, starts, part, wordAt, Stands, Table, every, same, among, empty, distinct}
+use Rattle.text.specs.Code.{Room, Put}
+use Rattle.text.specs.Words.{join, starts, Table, every, same, among, empty, distinct}
+use Rattle.text.specs.Code.{part, wordAt, Stands}
 use Rattle.text.proofs.Putting.{room-as, put-as, put-none}
 
 pub both-left : (a b : Bool) → T (a && b) → T a

@@ -2,3 +2,4 @@
 pub mod Choice
 pub mod Write
 pub mod Words
+pub mod Code

@@ -24,20 +24,6 @@ abbrev pub starts : ℕ → List (List ℕ) → List ℕ
 starts from [] = from ∷ []
 starts from (w ∷ ws) = from ∷ starts (from + length w) ws
 
--- the part of a text from one offset up to another
-unfoldable pub part : List ℕ → ℕ → ℕ → List ℕ
-part text from to = take (to - from) (drop from text)
-
--- the word at k of a table that is held so
-unfoldable pub wordAt : List ℕ → List ℕ → ℕ → List ℕ
-wordAt letters offsets k = part letters (getD offsets k 0) (getD offsets (k + 1) 0)
-
--- a word stands at k: it has two offsets, in order and within the text
-pub record Stands (letters offsets : List ℕ) (k : ℕ) : Type 0 where
-  pub there : k + 1 < length offsets
-  pub ordered : getD offsets k 0 ≤ getD offsets (k + 1) 0
-  pub within : getD offsets (k + 1) 0 ≤ length letters
-
 -- a table as the code holds it: the words as one text, and where each starts
 pub record Table (words : List (List ℕ)) (letters offsets : List ℕ) : Type 0 where
   pub text : letters ≡ join words

@@ -2,8 +2,9 @@
 ghost use mathlib.Core.Path.{_≡_};
 ghost use Prim.Native.Nat.{_+_, _≤_};
 ghost use lib.ListN.{length};
-ghost use Rattle.text.specs.Write.{write, Room, Put};
-ghost use Rattle.text.specs.Words.{part, Stands, wordAt};
+ghost use Rattle.text.specs.Write.{write};
+ghost use Rattle.text.specs.Code.{Room, Put};
+ghost use Rattle.text.specs.Code.{part, Stands, wordAt};
 use crate::put_bytes;
 
 // Two, four or eight letters from an offset on.

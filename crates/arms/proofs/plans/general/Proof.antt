@@ -1,6 +1,7 @@
 -- `arms::plans::general` meets its contract: the labels and the segment at each return are those of the arms that are told apart there.
 -- Assumes nothing.
-use Rattle.arms.specs.Plans.{spread, generalBy}
+use Rattle.arms.specs.Plans.{spread}
+use Rattle.arms.specs.Code.{generalBy}
 use Rattle.arms.proofs.GeneralPath.{general-far, general-alike}
 use borrow.Author.Needs.{needs}
 use Rattle.arms.proofs.plans.general.Statement.{statement}

@@ -8,7 +8,8 @@ use lib.ListN.{length}
 use Rattle.text.proofs.Putting.{first, put-length, Left, left-all, left-next, left-none, left-as}
 use Rattle.bodies.specs.Decoding.{instructionOf}
 use Rattle.places.specs.Places.{itemsAt}
-use Rattle.lines.specs.Text.{itemsText, itemsFrom}
+use Rattle.lines.specs.Text.{itemsText}
+use Rattle.lines.specs.Code.{itemsFrom}
 use Rattle.lines.proofs.Places.{items-shown, items-end}
 use Rattle.lines.proofs.FromTheLeft.{items-none}
 use Rattle.lines.proofs.place.put_places.Statement.{statement}

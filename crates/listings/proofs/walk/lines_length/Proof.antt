@@ -7,7 +7,7 @@ use Prim.Native.Nat.{ℕ, _-_, _+_, _≤_}
 use native.Mathlib.Omega.{arith}
 use lib.ListN.{length, drop, length-drop}
 use denote.Ref.{now}
-use Rattle.text.specs.Write.{Room}
+use Rattle.text.specs.Code.{Room}
 use Rattle.text.proofs.Putting.{put-length}
 use Rattle.listings.specs.Lines.{frontLine}
 use Rattle.listings.proofs.Walking.{linesAt, next-within, next-further, lines-end, next-length}

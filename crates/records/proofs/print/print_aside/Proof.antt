@@ -1,9 +1,9 @@
 -- `records::print::print_aside` meets its contract: what was put aside is the text, which then fits or not; or nothing was put.
 -- Assumes nothing.
 use lib.Seq.{length-take-le}
-use Rattle.text.specs.Write.{Room}
+use Rattle.text.specs.Code.{Room}
 use Rattle.text.proofs.Putting.{put-length}
-use Rattle.records.specs.Lines.{textOf}
+use Rattle.records.specs.Judged.{textOf}
 use mathlib.Core.Path.{_≡_, refl, sym, ap, _∙_}
 use mathlib.Core.Bool.{true}
 use mathlib.Core.List.{List}
@@ -12,7 +12,7 @@ use native.Mathlib.Nat.{zero-add}
 use native.Mathlib.Omega.{arith}
 use lib.ListN.{length}
 use denote.Ref.{now}
-use Rattle.answers.specs.Outcomes.{textOutcome}
+use Rattle.answers.specs.Code.{textOutcome}
 use Rattle.answers.proofs.Outcomes.{gives-as}
 use Rattle.records.proofs.Judging.{refusals-not-room}
 use Rattle.records.proofs.Texts.{alone-short, alone-text, outcome-text, refused-gives, put-front}

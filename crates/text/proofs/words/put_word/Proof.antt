@@ -2,7 +2,7 @@
 -- Assumes nothing.
 use native.Mathlib.Omega.{arith}
 use borrow.Author.Needs.{needs}
-use Rattle.text.specs.Words.{part, wordAt}
+use Rattle.text.specs.Code.{part, wordAt}
 use Rattle.text.proofs.Copies.{first-copy, second-copy, two-copies}
 use Rattle.text.proofs.words.put_word.Statement.{statement}
 use Rattle.text.proofs.words.put_word.Tie as tie
