@@ -27,7 +27,7 @@ pub extern "C" fn masm_print_record(body: &[u8], mode: u32, text: &mut [u8]) -> 
     let label_letters = names::labels::letters();
     let label_starts = names::labels::starts();
     let arms = names::opcodes::ARMS;
-    let answer = records::print::print_record(
+    let answer = listings::record::print_record(
         &name_letters,
         &name_starts,
         &register_letters,
@@ -53,7 +53,7 @@ pub extern "C" fn masm_print_listing(listing: &[u8], mode: u32, text: &mut [u8])
     let label_letters = names::labels::letters();
     let label_starts = names::labels::starts();
     let arms = names::opcodes::ARMS;
-    let answer = listings::print::print_listing(
+    let answer = listings::listing::print_listing(
         &name_letters,
         &name_starts,
         &register_letters,

@@ -1,16 +1,15 @@
-// The lines of a listing's frames, one after the other.
+// One loop for all that is printed: the frames of a listing one after the other, or a body alone.
 ghost use mathlib.Core.Path.{_≡_};
-ghost use Prim.Native.Nat.{_+_, _<_, _≤_};
+ghost use Prim.Native.Nat.{_≤_, _<_};
 ghost use lib.ListN.{length, drop};
-ghost use Rattle.text.specs.Code.{Room, Put};
+ghost use Rattle.text.specs.Code.{Room};
 ghost use Rattle.names.specs.Opcodes.{MnemonicTable, ArmTable};
 ghost use Rattle.names.specs.Registers.{RegisterTable};
 ghost use Rattle.names.specs.Labels.{LabelTable};
-ghost use Rattle.lines.specs.Text.{longestLine};
-ghost use Rattle.listings.specs.Lines.{frontLine, linesOf};
-ghost use Rattle.listings.specs.Listings.{sizeLimit};
-ghost use Rattle.listings.specs.Places.{Stepped};
+ghost use Rattle.listings.specs.Code.{frontOf, startOf, placeOf, standsAt, Stepped, Walkable, Walks};
 use crate::Next;
+use crate::Walked;
+use answers::PRINTED;
 use frames::Frame;
 use names::labels;
 use names::opcodes;
@@ -18,8 +17,22 @@ use names::registers;
 use records::Asked;
 use records::put::put_record;
 
-// The line of what stands at a place.
-pub fn put_next(
+// What stands at a place: alone, a body up to the end; else a frame.
+fn stands_at(bytes: &[u8], at: usize, alone: bool) -> Frame
+    requires { ⌜ at ≤ length (now bytes) ⌝ }
+    ensures { λ r. ⌜ r ≡ standsAt alone (now (bytes .entry)) at ⌝ }
+{
+    if alone {
+        return Frame::Whole {
+            start: at,
+            end: bytes.len(),
+        };
+    }
+    frames::frame_at(bytes, at)
+}
+
+// The text of what stands at a place.
+fn put_next(
     name_letters: &opcodes::Letters,
     name_starts: &opcodes::Starts,
     register_letters: &registers::Letters,
@@ -27,9 +40,10 @@ pub fn put_next(
     label_letters: &labels::Letters,
     label_starts: &labels::Starts,
     arms: &opcodes::Arms,
-    listing: &[u8],
+    bytes: &[u8],
     at: usize,
     asked: Asked,
+    alone: bool,
     text: &mut [u8],
     out: usize,
 ) -> Next
@@ -37,11 +51,11 @@ pub fn put_next(
     requires { ⌜ RegisterTable (now «register_letters») (now «register_starts») ⌝ }
     requires { ⌜ LabelTable (now «label_letters») (now «label_starts») ⌝ }
     requires { ⌜ ArmTable (now arms) ⌝ }
-    requires { ⌜ at ≤ length (now listing) ⌝ }
-    requires { ⌜ Room (now text) out (frontLine asked (drop at (now listing))) ⌝ }
-    ensures { λ r. ⌜ Stepped asked (now (listing .entry)) at (now (text .entry)) out (r .at) (r .out) (now (text .exit)) ⌝ }
+    requires { ⌜ at ≤ length (now bytes) ⌝ }
+    requires { ⌜ Room (now text) out (frontOf alone asked (drop at (now bytes))) ⌝ }
+    ensures { λ r. ⌜ Stepped alone asked (now (bytes .entry)) at (now (text .entry)) out r (now (text .exit)) ⌝ }
 {
-    match frames::frame_at(listing, at) {
+    match stands_at(bytes, at, alone) {
         Frame::Whole { start, end } => {
             let placed = put_record(
                 name_letters,
@@ -51,73 +65,46 @@ pub fn put_next(
                 label_letters,
                 label_starts,
                 arms,
-                &listing[start..end],
+                &bytes[start..end],
                 asked,
-                false,
+                alone,
                 text,
                 out,
             );
             Next {
                 at: end,
                 out: placed.out,
+                number: placed.number,
             }
         }
         Frame::Cut => {
             let next = text::put_bytes(text, out, b"; cut\n");
             Next {
-                at: listing.len(),
+                at: bytes.len(),
                 out: next,
+                number: PRINTED,
             }
         }
     }
 }
 
-// All lines after the version byte.
-pub fn put_lines(
-    name_letters: &opcodes::Letters,
-    name_starts: &opcodes::Starts,
-    register_letters: &registers::Letters,
-    register_starts: &registers::Starts,
-    label_letters: &labels::Letters,
-    label_starts: &labels::Starts,
-    arms: &opcodes::Arms,
-    listing: &[u8],
-    asked: Asked,
-    text: &mut [u8],
-) -> usize
-    requires { ⌜ MnemonicTable (now «name_letters») (now «name_starts») ⌝ }
-    requires { ⌜ RegisterTable (now «register_letters») (now «register_starts») ⌝ }
-    requires { ⌜ LabelTable (now «label_letters») (now «label_starts») ⌝ }
-    requires { ⌜ ArmTable (now arms) ⌝ }
-    requires { ⌜ 1 ≤ length (now listing) ⌝ }
-    requires { ⌜ Room (now text) 0 (linesOf asked (drop 1 (now listing))) ⌝ }
-    ensures { λ r. ⌜ Put (now (text .entry)) 0 (linesOf asked (drop 1 (now (listing .entry)))) r (now (text .exit)) ⌝ }
+// Where it begins: a listing after its version byte.
+fn start_of(alone: bool) -> usize
+    ensures { λ r. ⌜ r ≡ startOf alone ⌝ }
 {
-    let mut at = 1;
-    let mut out = 0;
-    while at < listing.len() {
-        let next = put_next(
-            name_letters,
-            name_starts,
-            register_letters,
-            register_starts,
-            label_letters,
-            label_starts,
-            arms,
-            listing,
-            at,
-            asked,
-            text,
-            out,
-        );
-        at = next.at;
-        out = next.out;
-    }
-    out
+    if alone { 0 } else { 1 }
 }
 
-// How long they are together: each is printed aside.
-pub fn lines_length(
+// Where the next text is put: aside, at the start; else after those before it.
+fn place_of(aside: bool, total: usize) -> usize
+    ensures { λ r. ⌜ r ≡ placeOf aside total ⌝ }
+{
+    if aside { 0 } else { total }
+}
+
+// All of it, in a buffer that has the room; or aside, each text at the start of a scratch array, so that only their length is known
+// then. It is one loop, so that the compiler joins the print of a record into it.
+pub fn walk(
     name_letters: &opcodes::Letters,
     name_starts: &opcodes::Starts,
     register_letters: &registers::Letters,
@@ -125,21 +112,25 @@ pub fn lines_length(
     label_letters: &labels::Letters,
     label_starts: &labels::Starts,
     arms: &opcodes::Arms,
-    listing: &[u8],
+    bytes: &[u8],
     asked: Asked,
-    aside: &mut [u8],
-) -> usize
+    alone: bool,
+    aside: bool,
+    text: &mut [u8],
+) -> Walked
     requires { ⌜ MnemonicTable (now «name_letters») (now «name_starts») ⌝ }
     requires { ⌜ RegisterTable (now «register_letters») (now «register_starts») ⌝ }
     requires { ⌜ LabelTable (now «label_letters») (now «label_starts») ⌝ }
     requires { ⌜ ArmTable (now arms) ⌝ }
-    requires { ⌜ (1 ≤ length (now listing)) × (length (now listing) ≤ sizeLimit) ⌝ }
-    requires { ⌜ longestLine + 1 ≤ length (now aside) ⌝ }
-    ensures { λ r. ⌜ r ≡ length (linesOf asked (drop 1 (now (listing .entry)))) ⌝ }
+    requires { ⌜ 0 < length (now bytes) ⌝ }
+    requires { ⌜ Walkable alone aside asked (now bytes) (now text) ⌝ }
+    ensures { λ r. ⌜ Walks alone aside asked (now (bytes .entry)) (now (text .entry)) r (now (text .exit)) ⌝ }
 {
-    let mut at = 1;
+    let mut at = start_of(alone);
     let mut total = 0;
-    while at < listing.len() {
+    let mut number = PRINTED;
+    while at < bytes.len() {
+        let place = place_of(aside, total);
         let next = put_next(
             name_letters,
             name_starts,
@@ -148,14 +139,16 @@ pub fn lines_length(
             label_letters,
             label_starts,
             arms,
-            listing,
+            bytes,
             at,
             asked,
-            aside,
-            0,
+            alone,
+            text,
+            place,
         );
         at = next.at;
-        total += next.out;
+        number = next.number;
+        total += next.out - place;
     }
-    total
+    Walked { number, total }
 }

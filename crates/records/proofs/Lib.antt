@@ -4,3 +4,4 @@ pub mod Unique
 pub mod InOrder
 pub mod PLines
 pub mod RecordLines
+pub mod Empty

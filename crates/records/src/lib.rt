@@ -1,6 +1,5 @@
 // One record: every body, all that is asked, and every buffer gets an answer. `put` is the one way in which a record is printed.
 pub mod judge;
-pub mod print;
 pub mod put;
 
 use names::Arm;

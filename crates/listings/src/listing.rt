@@ -1,6 +1,6 @@
 // A whole listing in a lent buffer.
 ghost use mathlib.Core.Path.{_≡_};
-ghost use Prim.Native.Nat.{_≤_};
+ghost use Prim.Native.Nat.{_≤_, _<_};
 ghost use lib.ListN.{length, drop};
 ghost use Rattle.names.specs.Opcodes.{MnemonicTable, ArmTable};
 ghost use Rattle.names.specs.Registers.{RegisterTable};
@@ -9,7 +9,10 @@ ghost use Rattle.answers.specs.Outcomes.{Gives};
 ghost use Rattle.answers.specs.Code.{textOutcome};
 ghost use Rattle.listings.specs.Lines.{linesOf};
 ghost use Rattle.listings.specs.Listings.{sizeLimit, listingOutcome};
-use crate::walk;
+use crate::ASIDE;
+use crate::IN_PLACE;
+use crate::LISTED;
+use crate::walk::walk;
 use answers::Answer;
 use answers::LENGTH;
 use answers::MODE;
@@ -26,44 +29,6 @@ const SIZE_LIMIT: usize = 16_777_216;
 
 // No listing has more bytes of lines than this many times its own: see `Rooms`.
 const ROOM_FACTOR: usize = 9;
-
-fn print_fitting(
-    name_letters: &opcodes::Letters,
-    name_starts: &opcodes::Starts,
-    register_letters: &registers::Letters,
-    register_starts: &registers::Starts,
-    label_letters: &labels::Letters,
-    label_starts: &labels::Starts,
-    arms: &opcodes::Arms,
-    listing: &[u8],
-    asked: Asked,
-    text: &mut [u8],
-) -> Answer
-    requires { ⌜ MnemonicTable (now «name_letters») (now «name_starts») ⌝ }
-    requires { ⌜ RegisterTable (now «register_letters») (now «register_starts») ⌝ }
-    requires { ⌜ LabelTable (now «label_letters») (now «label_starts») ⌝ }
-    requires { ⌜ ArmTable (now arms) ⌝ }
-    requires { ⌜ 1 ≤ length (now listing) ⌝ }
-    requires { ⌜ length (linesOf asked (drop 1 (now listing))) ≤ length (now text) ⌝ }
-    ensures { λ r. ⌜ Gives (textOutcome (linesOf asked (drop 1 (now (listing .entry)))) (now (text .entry))) r (now (text .exit)) ⌝ }
-{
-    let written = walk::put_lines(
-        name_letters,
-        name_starts,
-        register_letters,
-        register_starts,
-        label_letters,
-        label_starts,
-        arms,
-        listing,
-        asked,
-        text,
-    );
-    Answer {
-        number: PRINTED,
-        length: written,
-    }
-}
 
 // The lines of a listing of the known version. They are measured first only where they might not fit.
 fn print_lines(
@@ -82,11 +47,12 @@ fn print_lines(
     requires { ⌜ RegisterTable (now «register_letters») (now «register_starts») ⌝ }
     requires { ⌜ LabelTable (now «label_letters») (now «label_starts») ⌝ }
     requires { ⌜ ArmTable (now arms) ⌝ }
-    requires { ⌜ (1 ≤ length (now listing)) × (length (now listing) ≤ sizeLimit) ⌝ }
+    requires { ⌜ (0 < length (now listing)) × (length (now listing) ≤ sizeLimit) ⌝ }
     ensures { λ r. ⌜ Gives (textOutcome (linesOf asked (drop 1 (now (listing .entry)))) (now (text .entry))) r (now (text .exit)) ⌝ }
 {
-    if ROOM_FACTOR * listing.len() <= text.len() {
-        return print_fitting(
+    if text.len() < ROOM_FACTOR * listing.len() {
+        let mut aside = [0; LONGEST_LINE + 1];
+        let measured = walk(
             name_letters,
             name_starts,
             register_letters,
@@ -96,11 +62,18 @@ fn print_lines(
             arms,
             listing,
             asked,
-            text,
+            LISTED,
+            ASIDE,
+            &mut aside,
         );
+        if text.len() < measured.total {
+            return Answer {
+                number: ROOM,
+                length: measured.total,
+            };
+        }
     }
-    let mut aside = [0; LONGEST_LINE + 1];
-    let needed = walk::lines_length(
+    let printed = walk(
         name_letters,
         name_starts,
         register_letters,
@@ -110,26 +83,14 @@ fn print_lines(
         arms,
         listing,
         asked,
-        &mut aside,
-    );
-    if text.len() < needed {
-        return Answer {
-            number: ROOM,
-            length: needed,
-        };
-    }
-    print_fitting(
-        name_letters,
-        name_starts,
-        register_letters,
-        register_starts,
-        label_letters,
-        label_starts,
-        arms,
-        listing,
-        asked,
+        LISTED,
+        IN_PLACE,
         text,
-    )
+    );
+    Answer {
+        number: PRINTED,
+        length: printed.total,
+    }
 }
 
 pub fn print_listing(

@@ -1,20 +1,27 @@
 // One record in a lent buffer.
-ghost use Prim.Native.Nat.{_≤_};
+ghost use mathlib.Core.Path.{_≡_};
+ghost use mathlib.Core.List.{[]};
+ghost use Prim.Native.Nat.{_≤_, _<_};
 ghost use lib.ListN.{length};
 ghost use Rattle.lines.specs.Text.{longestLine};
 ghost use Rattle.names.specs.Opcodes.{MnemonicTable, ArmTable};
 ghost use Rattle.names.specs.Registers.{RegisterTable};
 ghost use Rattle.names.specs.Labels.{LabelTable};
 ghost use Rattle.answers.specs.Outcomes.{Gives};
-ghost use Rattle.records.specs.Records.{recordOutcome};
-use crate::Asked;
-use crate::put::put_record;
+ghost use Rattle.answers.specs.Refusals.{answerOf};
+ghost use Rattle.records.specs.Records.{refusals, recordOutcome};
+use crate::ALONE;
+use crate::IN_PLACE;
+use crate::walk::walk;
 use answers::Answer;
+use answers::LENGTH;
+use answers::MODE;
 use answers::PRINTED;
 use lines::LONGEST_LINE;
 use names::labels;
 use names::opcodes;
 use names::registers;
+use records::Asked;
 
 // A record that is printed aside first: answer 6's length is what that took.
 fn print_aside(
@@ -34,10 +41,11 @@ fn print_aside(
     requires { ⌜ RegisterTable (now «register_letters») (now «register_starts») ⌝ }
     requires { ⌜ LabelTable (now «label_letters») (now «label_starts») ⌝ }
     requires { ⌜ ArmTable (now arms) ⌝ }
+    requires { ⌜ 0 < length (now body) ⌝ }
     requires { ⌜ longestLine ≤ length (now aside) ⌝ }
     ensures { λ r. ⌜ Gives (recordOutcome asked (now (body .entry)) (now (text .entry))) r (now (text .exit)) ⌝ }
 {
-    let placed = put_record(
+    let walked = walk(
         name_letters,
         name_starts,
         register_letters,
@@ -47,18 +55,25 @@ fn print_aside(
         arms,
         body,
         asked,
-        true,
+        ALONE,
+        IN_PLACE,
         aside,
-        0,
     );
-    if placed.number == PRINTED {
-        let needed = placed.out;
+    if walked.number == PRINTED {
+        let needed = walked.total;
         return answers::print_text(&aside[..needed], text);
     }
     Answer {
-        number: placed.number,
+        number: walked.number,
         length: 0,
     }
+}
+
+// No bytes are no record's, in every mode that there is.
+fn of_no_bytes(asked: Asked) -> u8
+    ensures { λ r. ⌜ r ≡ answerOf (refusals asked []) ⌝ }
+{
+    if 1 < asked.mode { MODE } else { LENGTH }
 }
 
 // In a buffer for the longest line a record is printed at once.
@@ -80,8 +95,14 @@ pub fn print_record(
     requires { ⌜ ArmTable (now arms) ⌝ }
     ensures { λ r. ⌜ Gives (recordOutcome asked (now (body .entry)) (now (text .entry))) r (now (text .exit)) ⌝ }
 {
+    if body.len() == 0 {
+        return Answer {
+            number: of_no_bytes(asked),
+            length: 0,
+        };
+    }
     if LONGEST_LINE <= text.len() {
-        let placed = put_record(
+        let walked = walk(
             name_letters,
             name_starts,
             register_letters,
@@ -91,13 +112,13 @@ pub fn print_record(
             arms,
             body,
             asked,
-            true,
+            ALONE,
+            IN_PLACE,
             text,
-            0,
         );
         return Answer {
-            number: placed.number,
-            length: placed.out,
+            number: walked.number,
+            length: walked.total,
         };
     }
     let mut aside = [0; LONGEST_LINE];

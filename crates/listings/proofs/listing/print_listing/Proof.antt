@@ -1,4 +1,4 @@
--- `listings::print::print_listing` meets its contract: the refusals in their order, then by the version byte.
+-- `listings::listing::print_listing` meets its contract: the refusals in their order, then by the version byte.
 -- Assumes nothing.
 use mathlib.Core.Path.{refl, sym, _∙_}
 use native.Mathlib.Omega.{arith}
@@ -6,8 +6,8 @@ use denote.Ref.{now}
 use Rattle.answers.proofs.Outcomes.{gives-as}
 use Rattle.listings.proofs.Outcomes.{listing-mode, listing-length, listing-text, text-empty, text-known, text-unknown}
 use borrow.Author.Needs.{needs}
-use Rattle.listings.proofs.print.print_listing.Statement.{statement}
-use Rattle.listings.proofs.print.print_listing.Tie as tie
+use Rattle.listings.proofs.listing.print_listing.Statement.{statement}
+use Rattle.listings.proofs.listing.print_listing.Tie as tie
 
 returns : tie.Need-returns
 returns c = listing-mode ((c .before .before .before .before .args) .asked) (now ((c .before .before .before .before .args) .listing)) (now ((c .before .before .before .before .args) .text)) ((c .if1) .taken)
