@@ -21,14 +21,15 @@ returns c = let a = c .before .before .before .before .args in
 
 walk-requires : tie.Need-walk-requires
 walk-requires c κs = let a = c .before .before .before .before .before .args in
-    ((c .before .before .before .before .before .pre) .0, ((c .before .before .before .before .before .pre) .1 .0, ((c .before .before .before .before .before .pre) .1 .1 .0, ((c .before .before .before .before .before .pre) .1 .1 .1, (omega (arith, c .before .before .if1 .left), alone-fits (a .asked) (now (a .body)) _ (c .before .if2 .taken))))))
+    ((c .before .before .before .before .before .pre) .0, ((c .before .before .before .before .before .pre) .1 .0, ((c .before .before .before .before .before .pre) .1 .1 .0, ((c .before .before .before .before .before .pre) .1 .1 .1, (omega (arith, c .before .before .if1 .left), alone-fits (a .asked) (now (a .body)) _ (omega (arith, c .before .if2 .taken)))))))
 
 same-length : tie.Need-same-length
 same-length c = search needs
 
 returns-2 : tie.Need-returns-2
 returns-2 c = let a = c .before .before .before .before .before .before .before .before .args in
-    alone-gives (a .asked) (now (a .body)) (c .before .before .before .before .if2 .taken) ((c .before .before .walk .ensures) .answer refl) (alone-put (c .before .before .walk .ensures))
+    let w = c .before .before .walk .ensures in
+    alone-gives (a .asked) (now (a .body)) (c .before .before .before .before .if2 .taken) (w .answer refl) (alone-put w)
 
 slice-aggregate-print-aside : tie.Need-slice-aggregate-print-aside
 slice-aggregate-print-aside c = search needs
