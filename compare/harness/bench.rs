@@ -2,7 +2,8 @@
 //!
 //! The hosts come in the variable BENCH_HOSTS, one to a line: a label, a tab, a command. Each is the
 //! C host (`host/driver.c`) over one printer, so all are timed by the same code: one call prints the
-//! whole listing from memory to memory. The programs come in BENCH_PROGRAMS in the same way and are
+//! whole listing from memory to memory, with room to spare and with exactly the room that the text needs
+//! (then the printer measures first); or a call prints each record. The programs come in BENCH_PROGRAMS in the same way and are
 //! timed as processes, from a file to nowhere. BENCH_ZYDIS is `timing/zydis.c`'s program, or empty; it
 //! times itself. Times are processor time, so that what else runs on the machine counts as little as
 //! can be.
@@ -19,6 +20,8 @@ use std::process::{Command, Stdio};
 const RECORDS: usize = 200_000;
 const SEED: u64 = 1;
 const ROUNDS: u32 = 21;
+/// more than the longest line
+const RECORD_ROOM: u64 = 512;
 
 fn main() {
     let folder = std::env::args().nth(1).expect("use: bench FOLDER");
@@ -29,10 +32,19 @@ fn main() {
     let mut rows = Vec::new();
     // room for 257 bytes a record and for six times the listing, so that no printer measures first
     let ample = (257 * RECORDS).max(6 * listing.len() + 6);
-    for (label, command) in pairs("BENCH_HOSTS") {
-        rows.push(time_host(&label, &command, &listing, &text.0, ample));
-        if label.starts_with("the archive") {
-            rows.push(time_host(&format!("{label}, no room to spare"), &command, &listing, &text.0, text.0.len()));
+    // in turn, so that what changes on the machine meanwhile changes for all
+    let hosts = pairs("BENCH_HOSTS");
+    for (label, command) in &hosts {
+        rows.push(time_host(label, command, &listing, &text.0, ample));
+    }
+    let measured = |label: &str| label.starts_with("the archive") || label == "direct Rust";
+    let measured: Vec<_> = hosts.iter().filter(|(label, _)| measured(label)).collect();
+    for (label, command) in &measured {
+        rows.push(time_host(&format!("{label}, no room to spare"), command, &listing, &text.0, text.0.len()));
+    }
+    for (words, room) in [("a record a call", RECORD_ROOM), ("a record a call, no room to spare", 0)] {
+        for (label, command) in &measured {
+            rows.push(time_records(&format!("{label}, {words}"), command, &listing, text.0.len() - RECORDS, room));
         }
     }
     let input = format!("{folder}/listing");
@@ -63,6 +75,13 @@ fn time_host(label: &str, command: &str, listing: &[u8], text: &[u8], room: usiz
         std::process::exit(1);
     }
     let rounds = host.time_listing(listing, 0, room, ROUNDS).expect("the host lives");
+    Row::new(label, rounds.iter().map(|&(_, took)| took as f64 / RECORDS as f64).collect())
+}
+
+/// Each record by a call of its own; `printed` are the bytes of all lines, without the newlines.
+fn time_records(label: &str, command: &str, listing: &[u8], printed: usize, room: u64) -> Row {
+    let rounds = Host::start(command).time_records(listing, 0, room, ROUNDS).expect("the host lives");
+    assert!(rounds.iter().all(|&(bytes, _)| bytes == printed as u64), "{label}: lines are lost");
     Row::new(label, rounds.iter().map(|&(_, took)| took as f64 / RECORDS as f64).collect())
 }
 

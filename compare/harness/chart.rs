@@ -17,14 +17,14 @@ impl Row {
 pub fn table(rows: &[Row]) -> String {
     let mut table = String::from("nanoseconds a record     best   middle\n");
     for Row { label, best, middle } in rows {
-        table += &format!("{label:<52} {best:>8.1} {middle:>8.1}\n");
+        table += &format!("{label:<60} {best:>8.1} {middle:>8.1}\n");
     }
-    table.replacen("nanoseconds a record     best   middle", &format!("{:<52} {:>8} {:>8}", "nanoseconds a record", "best", "middle"), 1)
+    table.replacen("nanoseconds a record     best   middle", &format!("{:<60} {:>8} {:>8}", "nanoseconds a record", "best", "middle"), 1)
 }
 
 /// Bars for the best round, a mark for the middle one.
 pub fn svg(rows: &[Row]) -> String {
-    const LEFT: f64 = 360.0;
+    const LEFT: f64 = 400.0;
     const WIDE: f64 = 420.0;
     const HIGH: f64 = 30.0;
     let most = rows.iter().map(|row| row.middle).fold(1.0, f64::max);

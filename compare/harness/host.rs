@@ -265,8 +265,31 @@ impl Host {
         room: u64,
         rounds: u32,
     ) -> std::io::Result<Vec<(u64, u64)>> {
+        self.time(b'b', listing, mode, room, rounds)
+    }
+
+    /// Times the record entry, called for each record of a listing with this room, or with exactly the
+    /// room that it needs if this is 0: the bytes that the rounds printed, and the nanoseconds of each.
+    pub fn time_records(
+        &mut self,
+        listing: &[u8],
+        mode: u32,
+        room: u64,
+        rounds: u32,
+    ) -> std::io::Result<Vec<(u64, u64)>> {
+        self.time(b'e', listing, mode, room, rounds)
+    }
+
+    fn time(
+        &mut self,
+        letter: u8,
+        listing: &[u8],
+        mode: u32,
+        room: u64,
+        rounds: u32,
+    ) -> std::io::Result<Vec<(u64, u64)>> {
         let head = [&rounds.to_le_bytes()[..], &mode.to_le_bytes(), &room.to_le_bytes()].concat();
-        self.ask(b'b', &[&head, listing])?;
+        self.ask(letter, &[&head, listing])?;
         (0..rounds)
             .map(|_| Ok((u64::from_le_bytes(self.number()?), u64::from_le_bytes(self.number()?))))
             .collect()

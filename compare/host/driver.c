@@ -8,8 +8,8 @@
  * library the five functions below, which bare_x86_64.c can stand in for.
  *
  * A message on standard input: one letter, eight bytes of payload length, the payload. Numbers are
- * little-endian. Letters: r (records), l (a listing), b (a listing, timed). The replies are described
- * at each function. The program ends with status 0 when the input ends.
+ * little-endian. Letters: r (records), l (a listing), b (a listing, timed), e (its records each by
+ * itself, timed). The replies are described at each function. The program ends with status 0 when the input ends.
  */
 typedef unsigned char u8;
 typedef unsigned int u32;
@@ -32,6 +32,7 @@ enum {
 	MAX_REQUEST = 64 << 20,
 	MAX_LISTING_ROOM = 112 << 20,  /* a listing within the limit prints fewer bytes than this */
 	MAX_ROUNDS = 1024,
+	MAX_TIMED = 1 << 20,           /* records of a listing whose records are timed */
 	PROCESSOR_TIME = 2,            /* Linux's clock of what this process used: others do not count */
 	GUARD = 64 << 10               /* a multiple of every page size in use */
 };
@@ -210,6 +211,44 @@ static void timed(const u8 *at, u64 count)
 	__builtin_memset(lent + FENCE, FILL, room);
 }
 
+/* The records of a listing, each by a call of its own. Payload as for `timed`, but the room is that of
+   each call; 0 is exactly the room that the record needs, which is asked for before the first round. The
+   listing is whole. Reply: for each round the bytes printed, all together, and the nanoseconds. */
+static void each(const u8 *at, u64 count)
+{
+	static u64 took[2 * MAX_ROUNDS];
+	static u32 needed[MAX_TIMED];
+	u64 rounds = number(at, 4), room = number(at + 8, 8), k;
+	u32 mode = (u32)number(at + 4, 4);
+	const u8 *first = at + 17, *end = at + count, *frame;
+	i64 from[2], to[2];
+
+	if (room > MAX_ROOM || rounds > MAX_ROUNDS)
+		__builtin_trap();
+	prepare(MAX_ROOM);
+	for (frame = first, k = 0; frame < end; frame += 2 + (frame[0] << 8 | frame[1])) {
+		if (k == MAX_TIMED)
+			__builtin_trap();
+		needed[k++] = room ? (u32)room : (u32)masm_print_record(frame + 2, frame[0] << 8 | frame[1], mode, lent + FENCE, MAX_ROOM);
+	}
+	for (u64 round = 0; round < rounds; round++) {
+		u64 printed = 0;
+		clock_gettime(PROCESSOR_TIME, from);
+		for (frame = first, k = 0; frame < end; k++) {
+			u64 length = frame[0] << 8 | frame[1];
+			u64 returned = masm_print_record(frame + 2, length, mode, lent + FENCE, needed[k]);
+			printed += returned >> 32 ? 0 : (u32)returned;
+			frame += 2 + length;
+		}
+		clock_gettime(PROCESSOR_TIME, to);
+		took[2 * round] = printed;
+		took[2 * round + 1] = (u64)((to[0] - from[0]) * 1000000000 + to[1] - from[1]);
+	}
+	say(took, 16 * rounds);
+	flush();
+	__builtin_memset(lent + FENCE, FILL, MAX_ROOM);
+}
+
 int main(void)
 {
 	u8 head[9];
@@ -229,6 +268,8 @@ int main(void)
 			listing(request, count);
 		else if (head[0] == 'b')
 			timed(request, count);
+		else if (head[0] == 'e')
+			each(request, count);
 		else
 			return 1;
 	}
