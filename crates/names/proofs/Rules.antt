@@ -1,7 +1,7 @@
 -- Each table keeps its rule, by one computed test, and what that says of each entry.
 -- Assumes nothing.
 use mathlib.Core.Path.{_≡_}
-use mathlib.Core.Bool.{not, _&&_}
+use mathlib.Core.Bool.{not, _&&_, _||_}
 use mathlib.Core.List.{List, [], _∷_}
 use Prim.Native.Nat.{ℕ, zero, suc, suc-le-suc, _<_}
 use native.Mathlib.Nat.{lt-trans, not-suc-le-zero, le-of-suc-le-suc}
@@ -11,9 +11,9 @@ use lib.ListN.{length, getD}
 use Rattle.text.specs.Words.{every, ascend, distinct, empty, starts}
 use Rattle.text.proofs.Tables.{both-left, both-right, so, every-at, distinct-at}
 use Rattle.names.specs.Opcodes.{mnemonics, mnemonic, opcodes}
-use Rattle.names.specs.Registers.{segments, registers, registerName}
+use Rattle.names.specs.Registers.{segments, segmentName, registers, registerName}
 use Rattle.names.specs.Labels.{labels}
-use Rattle.names.specs.Rules.{letter, registerLetter, nameOf, namesRule, registersRule}
+use Rattle.names.specs.Rules.{letter, registerLetter, nameOf, namesRule, ascendAtWords, registersRule}
 
 -- the tables
 
@@ -92,8 +92,44 @@ pub mnemonic-alone : (j k : ℕ) → j < k → k < 154 → mnemonic j ≡ mnemon
 unfolding mnemonic mnemonics opcodes
 mnemonic-alone j k l h e = name-alone 13 mnemonics mnemonics-keep j k l h e
 
+-- where the offsets of a table ascend at words, each word's offset is below the next one
+words-ascend : (ws : List (List ℕ)) (xs : List ℕ) → T (ascendAtWords ws xs) → (k : ℕ) → T (not (empty (getD ws k []))) → getD xs k 0 < getD xs (suc k) 0
+words-ascend [] xs t k some = absurd some
+words-ascend (w ∷ ws) [] t k some = absurd t
+words-ascend (w ∷ ws) (a ∷ []) t k some = absurd t
+words-ascend ([] ∷ ws) (a ∷ b ∷ xs) t zero some = absurd some
+words-ascend ((c ∷ w) ∷ ws) (a ∷ b ∷ xs) t zero some = ltb-true a b (so (ltb a b) (both-left (ltb a b) (ascendAtWords ws (b ∷ xs)) t))
+words-ascend (w ∷ ws) (a ∷ b ∷ xs) t (suc k) some =
+    words-ascend ws (b ∷ xs) (both-right (empty w || ltb a b) (ascendAtWords ws (b ∷ xs)) t) k some
+
+-- at each entry of a table in which some places stand for nothing
+module _ (words : List (List ℕ)) (keep : T (registersRule words)) where
+  -- the offset of each that has a name is below that of the next
+  pub named-ascends : (k : ℕ) → T (not (empty (getD words k []))) → getD (starts 0 words) k 0 < getD (starts 0 words) (suc k) 0
+  unfolding registersRule
+  named-ascends k some =
+      words-ascend words (starts 0 words)
+      (both-left (ascendAtWords words (starts 0 words)) (every (every registerLetter) words)
+      (both-left (ascendAtWords words (starts 0 words) && every (every registerLetter) words) (distinct words) keep)) k some
+
+  -- the names at two places differ
+  pub named-alone : (j k : ℕ) → j < k → k < length words → T (not (empty (getD words j []))) → getD words j [] ≡ getD words k [] → ⊥
+  unfolding registersRule
+  named-alone j k l h some e =
+      distinct-at words
+      (both-right (ascendAtWords words (starts 0 words) && every (every registerLetter) words) (distinct words) keep) j k l h some e
+
+-- "offsets ascend", at each register byte that has a name: 30 and 31 have none
+pub register-ascends : (k : ℕ) → T (not (empty (registerName k))) → getD (starts 0 registers) k 0 < getD (starts 0 registers) (suc k) 0
+unfolding registerName
+register-ascends k some = named-ascends registers registers-keep k some
+
+-- and at each segment: the number 0 has no name
+pub segment-ascends : (k : ℕ) → T (not (empty (segmentName k))) → getD (starts 0 segments) k 0 < getD (starts 0 segments) (suc k) 0
+unfolding segmentName
+segment-ascends k some = named-ascends segments segments-keep k some
+
 -- two registers have two names
 pub register-alone : (j k : ℕ) → j < k → k < 64 → T (not (empty (registerName j))) → registerName j ≡ registerName k → ⊥
-unfolding registerName registersRule registers
-register-alone j k l h some e =
-    distinct-at registers (both-right (every (every registerLetter) registers) (distinct registers) registers-keep) j k l h some e
+unfolding registerName registers
+register-alone j k l h some e = named-alone registers registers-keep j k l h some e

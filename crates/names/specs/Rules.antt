@@ -1,9 +1,9 @@
 -- The rules of document 01 on its tables, each as one test that is computed over the whole table.
 -- Assumes nothing.
-use mathlib.Core.Bool.{Bool, not, _&&_, _||_}
-use mathlib.Core.List.{List}
+use mathlib.Core.Bool.{Bool, true, false, not, _&&_, _||_}
+use mathlib.Core.List.{List, [], _∷_}
 use Prim.Native.Nat.{ℕ}
-use lib.Dec.{leb, eqb}
+use lib.Dec.{leb, ltb, eqb}
 use lib.ListN.{length}
 use Rattle.text.specs.Words.{every, ascend, distinct, empty, starts}
 
@@ -23,5 +23,12 @@ namesRule n words = ascend (starts 0 words) && every (nameOf n) words && distinc
 abbrev pub registerLetter : ℕ → Bool
 registerLetter b = letter b || eqb b 40 || eqb b 41
 
+-- "offsets ascend", in a table in which some places stand for nothing: where a word stands, its offset is below the next one
+abbrev pub ascendAtWords : List (List ℕ) → List ℕ → Bool
+ascendAtWords [] offsets = true
+ascendAtWords (w ∷ ws) [] = false
+ascendAtWords (w ∷ ws) (a ∷ []) = false
+ascendAtWords (w ∷ ws) (a ∷ b ∷ offsets) = (empty w || ltb a b) && ascendAtWords ws (b ∷ offsets)
+
 unfoldable pub registersRule : List (List ℕ) → Bool
-registersRule words = every (every registerLetter) words && distinct words
+registersRule words = ascendAtWords words (starts 0 words) && every (every registerLetter) words && distinct words
