@@ -16,11 +16,17 @@ pub struct Address {
 // An operand as the record has it. `Absent` is an operand at or past the count. `place` is 1 for the R place and 2 for the M
 // place; an immediate keeps its kind, 3 to 8, and its value as 32 bits, extended where the kind is signed.
 pub enum Operand {
+    // no text
     Absent,
+    // `eax`, `xmm1`, `st(1)`
     Register { place: u8, reg: u8 },
+    // `9`, `0FFFFFFFFh`
     Imm { kind: u8, value: u32 },
+    // `[0ABCDh]`, `fs:[0030h]`
     Absolute16 { segment: u8, address: u16 },
+    // `[00402000h]`
     Absolute32 { segment: u8, address: u32 },
+    // `[ebx]`, `fs:[ebx + esi * 4 - 10h]`
     Memory { segment: u8, address: Address },
 }
 
@@ -39,30 +45,50 @@ pub struct Instruction {
 
 // The size word before a memory operand. `Missing`: a label is called for and there is none.
 pub enum Label {
+    // no text: `lea eax, [ebx]`
     None,
+    // `byte ptr `
     Byte,
+    // `word ptr `
     Word,
+    // `dword ptr `
     Dword,
+    // `qword ptr `
     Qword,
+    // `xmmword ptr `
     Xmmword,
+    // `ymmword ptr `
     Ymmword,
+    // `zmmword ptr `
     Zmmword,
+    // `mmword ptr `: `cvtsd2si eax, mmword ptr [ebx]`
     Mmword,
+    // `fword ptr `: `lgdt fword ptr [ebx]`
     Fword,
+    // `tbyte ptr `: `fld tbyte ptr [ebp - 0Ah]`
     Tbyte,
+    // no text: the record is refused with 5
     Missing,
 }
 
-// What stands behind label and segment: nothing at all, a register by its byte, `st`, an immediate, an absolute of 4 or of 8
+// What stands after label and segment: nothing at all, a register by its byte, `st`, an immediate, an absolute of 4 or of 8
 // digits, a bracket, or a branch from `$`.
 pub enum Shown {
+    // no text
     Nothing,
+    // `eax`, `st(0)`
     Name(u8),
+    // `st`
     St,
+    // `9`, `0FFFFFFFFh`
     Number(u32),
+    // `[0ABCDh]`, `[0ABCh]`
     Word(u16),
+    // `[00402000h]`
     Dword(u32),
+    // `[ebx + esi * 4 - 10h]`
     Bracket(Address),
+    // `$-80h`, `near ptr $+80h`
     Branch { near: bool, minus: bool, size: u32 },
 }
 

@@ -2,19 +2,26 @@
 // the record's body.
 pub mod labels;
 
-// How a place shows the segment of its operand: `[ebx]`, `fs:[ebx]`, or `fs:[esi]` but `[esi]` for ds.
+// How a place shows the segment of its operand.
 pub enum Segment {
+    // `[ebx]`, whatever the segment
     Hidden,
+    // `fs:[ebx]`, `ds:[esi]`
     Shown,
+    // `fs:[esi]`, and `[esi]` for ds
     UnlessDs,
 }
 
-// What stands at a place: nothing; a register that the arm shows by itself, `eax`; the branch of operand 0, `$+80h`; or operand k,
-// `dword ptr fs:[ebx]`, with the label of this number where it is memory, and as `st` where `short` is set and it is st(0).
+// What stands at a place: nothing; a register that the arm shows by itself; the branch of operand 0; or operand k, with the label
+// of this number where it is memory, and as `st` where `short` is set and it is st(0).
 pub enum Place {
+    // no text
     Nothing,
+    // `eax`, of `hreset 0, eax`
     Register(u8),
+    // `$+80h`
     Branch,
+    // `ecx`, `dword ptr fs:[ebx]`, `st`
     Operand {
         k: u8,
         label: u8,
