@@ -13,45 +13,7 @@ use Rattle.places.specs.declared.Segment.the-variants.{Shown as Own}
 use Rattle.places.specs.declared.Place.the-variants as place
 use Rattle.places.specs.declared.Plan.{Plan}
 use Rattle.names.specs.declared.Arm.{Arm}
-use Rattle.names.specs.declared.Arm.the-variants.{
-  General,
-  Qword,
-  Mmword,
-  Jmpf,
-  Callf,
-  Lds,
-  Movs,
-  Cmps,
-  Branch,
-  Xbegin,
-  Feni,
-  Fdisi,
-  Fsetpm,
-  Hreset,
-  Lsl,
-  Prefetch,
-  Sgdt,
-  Lss,
-  Nop,
-  Monitor,
-  Mwait,
-  Invlpgb,
-  Rdpru,
-  Scas,
-  Lods,
-  Psmash,
-  Pvalidate,
-  Incssp,
-  Wrss,
-  Pblendvb,
-  Lea,
-  Pushf,
-  Aam,
-  Fcom,
-  Fadd,
-  Fbld,
-  Fbstp,
-}
+use Rattle.names.specs.declared.Arm.the-variants as arms
 use Rattle.names.specs.Among.{isArm, isOneOf}
 use Rattle.arms.specs.Tests.{isBranch, isXbegin, lslSource}
 use Rattle.arms.specs.Code.{mmwordFor}
@@ -86,42 +48,42 @@ same-if-left false x y = refl
 -- the arms with one label for all operands and their own segments, wherever they are left to the general path
 abbrev pub alike : List Arm
 alike =
-    General ∷ Qword ∷ Mmword ∷ Cmps ∷ Branch ∷ Xbegin ∷ Feni ∷ Fdisi ∷ Fsetpm ∷ Hreset ∷ Lsl ∷ Prefetch ∷ Sgdt ∷ Lss ∷ Nop ∷
-    Monitor ∷ Mwait ∷ Invlpgb ∷ Rdpru ∷ Scas ∷ Lods ∷ Psmash ∷ Pvalidate ∷ Incssp ∷ Wrss ∷ Pblendvb ∷ Lea ∷ Pushf ∷ Aam ∷
-    Fcom ∷ Fadd ∷ Fbld ∷ Fbstp ∷ []
+    arms.General ∷ arms.Qword ∷ arms.Mmword ∷ arms.Cmps ∷ arms.Branch ∷ arms.Xbegin ∷ arms.Feni ∷ arms.Fdisi ∷ arms.Fsetpm ∷ arms.Hreset ∷ arms.Lsl ∷ arms.Prefetch ∷ arms.Sgdt ∷ arms.Lss ∷ arms.Nop ∷
+    arms.Monitor ∷ arms.Mwait ∷ arms.Invlpgb ∷ arms.Rdpru ∷ arms.Scas ∷ arms.Lods ∷ arms.Psmash ∷ arms.Pvalidate ∷ arms.Incssp ∷ arms.Wrss ∷ arms.Pblendvb ∷ arms.Lea ∷ arms.Pushf ∷ arms.Aam ∷
+    arms.Fcom ∷ arms.Fadd ∷ arms.Fbld ∷ arms.Fbstp ∷ []
 
 -- the plan of the general path by the arms that the code tells apart
 module _ (arm : Arm) (mmword : Bool) (size : ℕ) where
   general-as :
       (first later : Bool) →
-      isOneOf arm (Jmpf ∷ Callf ∷ []) ≡ first →
-      isArm arm Lds ≡ later →
-      isArm arm Movs ≡ false →
+      isOneOf arm (arms.Jmpf ∷ arms.Callf ∷ []) ≡ first →
+      isArm arm arms.Lds ≡ later →
+      isArm arm arms.Movs ≡ false →
       generalBy arm mmword size ≡ spread (generalLabel mmword first size) (generalLabel mmword later size) Own
   unfolding generalBy
   general-as first later e f g = rw (e, f, g)
 
-  pub general-far : OneOf (map tag (Jmpf ∷ Callf ∷ [])) (tag arm) → generalBy arm mmword size ≡ spread (generalLabel mmword true size) (generalLabel mmword false size) Own
+  pub general-far : OneOf (map tag (arms.Jmpf ∷ arms.Callf ∷ [])) (tag arm) → generalBy arm mmword size ≡ spread (generalLabel mmword true size) (generalLabel mmword false size) Own
   general-far o =
-      let far = Jmpf ∷ Callf ∷ [] in
-      general-as true false (of-group (λ (x : Arm). isOneOf x (Jmpf ∷ Callf ∷ [])) true far arm tt o) (of-group (λ (x : Arm). isArm x Lds) false far arm tt o)
-      (of-group (λ (x : Arm). isArm x Movs) false far arm tt o)
+      let far = arms.Jmpf ∷ arms.Callf ∷ [] in
+      general-as true false (of-group (λ (x : Arm). isOneOf x (arms.Jmpf ∷ arms.Callf ∷ [])) true far arm tt o) (of-group (λ (x : Arm). isArm x arms.Lds) false far arm tt o)
+      (of-group (λ (x : Arm). isArm x arms.Movs) false far arm tt o)
 
   pub general-alike : OneOf (map tag alike) (tag arm) → generalBy arm mmword size ≡ spread (generalLabel mmword false size) (generalLabel mmword false size) Own
   general-alike o =
-      general-as false false (of-group (λ (x : Arm). isOneOf x (Jmpf ∷ Callf ∷ [])) false alike arm tt o)
-      (of-group (λ (x : Arm). isArm x Lds) false alike arm tt o)
-      (of-group (λ (x : Arm). isArm x Movs) false alike arm tt o)
+      general-as false false (of-group (λ (x : Arm). isOneOf x (arms.Jmpf ∷ arms.Callf ∷ [])) false alike arm tt o)
+      (of-group (λ (x : Arm). isArm x arms.Lds) false alike arm tt o)
+      (of-group (λ (x : Arm). isArm x arms.Movs) false alike arm tt o)
 
 -- the arms that show their name alone of a record that they keep, if they keep any: in the order of the declaration, in three parts
 abbrev silentFirst : List Arm
-silentFirst = General ∷ Qword ∷ Mmword ∷ Jmpf ∷ Callf ∷ Lds ∷ Movs ∷ Cmps ∷ []
+silentFirst = arms.General ∷ arms.Qword ∷ arms.Mmword ∷ arms.Jmpf ∷ arms.Callf ∷ arms.Lds ∷ arms.Movs ∷ arms.Cmps ∷ []
 
 abbrev silentNext : List Arm
-silentNext = Feni ∷ Fdisi ∷ Fsetpm ∷ Nop ∷ []
+silentNext = arms.Feni ∷ arms.Fdisi ∷ arms.Fsetpm ∷ arms.Nop ∷ []
 
 abbrev silentLast : List Arm
-silentLast = Rdpru ∷ Incssp ∷ Wrss ∷ Pushf ∷ Aam ∷ []
+silentLast = arms.Rdpru ∷ arms.Incssp ∷ arms.Wrss ∷ arms.Pushf ∷ arms.Aam ∷ []
 
 abbrev pub silent : List Arm
 silent = silentFirst ++ (silentNext ++ silentLast)
@@ -129,62 +91,62 @@ silent = silentFirst ++ (silentNext ++ silentLast)
 module _ (i : Instruction) where
   -- ---- Which records take it
 
-  pub path-of-branch : generalPath Branch i ≡ not (isBranch (i .a))
+  pub path-of-branch : generalPath arms.Branch i ≡ not (isBranch (i .a))
   path-of-branch = simp or-false
 
-  pub path-of-xbegin : generalPath Xbegin i ≡ not (isXbegin (i .a))
+  pub path-of-xbegin : generalPath arms.Xbegin i ≡ not (isXbegin (i .a))
   path-of-xbegin = simp or-false
 
-  pub path-of-lsl : generalPath Lsl i ≡ not (isRegister (i .a) && isRegister (i .b))
+  pub path-of-lsl : generalPath arms.Lsl i ≡ not (isRegister (i .a) && isRegister (i .b))
   path-of-lsl = simp or-false
 
-  pub path-of-nop : generalPath Nop i ≡ isAbsent (i .b)
+  pub path-of-nop : generalPath arms.Nop i ≡ isAbsent (i .b)
   path-of-nop = simp or-false
 
-  pub path-of-aam : generalPath Aam i ≡ not (eqb (i .imm) 10)
+  pub path-of-aam : generalPath arms.Aam i ≡ not (eqb (i .imm) 10)
   path-of-aam = refl
 
   -- ---- The plan that it makes
 
   pub general-plan : (arm : Arm) → generalPath arm i ≡ true → planOf arm i ≡ generalBy arm (mmwordFor arm i) (i .size)
   unfolding planOf general generalBy
-  general-plan General e = refl
-  general-plan Qword e = refl
-  general-plan Mmword e = refl
-  general-plan Jmpf e = refl
-  general-plan Callf e = refl
-  general-plan Lds e = refl
-  general-plan Movs e = refl
-  general-plan Cmps e = refl
-  general-plan Branch e = left (isBranch (i .a)) (one place.Branch) (generally i) (sym path-of-branch ∙ e)
-  general-plan Xbegin e = left (isXbegin (i .a)) (one place.Branch) (generally i) (sym path-of-xbegin ∙ e)
-  general-plan Feni e = cc
-  general-plan Fdisi e = cc
-  general-plan Fsetpm e = cc
-  general-plan Hreset e = cc
-  general-plan Lsl e = left (isRegister (i .a) && isRegister (i .b)) (two (plain 0) (named (lslSource (i .a) (i .b)))) (generally i) (sym path-of-lsl ∙ e)
-  general-plan Prefetch e = cc
-  general-plan Sgdt e = cc
-  general-plan Lss e = cc
-  general-plan Nop e = taken (isAbsent (i .b)) (generally i) none (sym path-of-nop ∙ e)
-  general-plan Monitor e = cc
-  general-plan Mwait e = cc
-  general-plan Invlpgb e = cc
-  general-plan Rdpru e = cc
-  general-plan Scas e = cc
-  general-plan Lods e = cc
-  general-plan Psmash e = cc
-  general-plan Pvalidate e = cc
-  general-plan Incssp e = refl
-  general-plan Wrss e = refl
-  general-plan Pblendvb e = cc
-  general-plan Lea e = cc
-  general-plan Pushf e = cc
-  general-plan Aam e = left (eqb (i .imm) 10) none (generally i) (sym path-of-aam ∙ e)
-  general-plan Fcom e = cc
-  general-plan Fadd e = cc
-  general-plan Fbld e = cc
-  general-plan Fbstp e = cc
+  general-plan arms.General e = refl
+  general-plan arms.Qword e = refl
+  general-plan arms.Mmword e = refl
+  general-plan arms.Jmpf e = refl
+  general-plan arms.Callf e = refl
+  general-plan arms.Lds e = refl
+  general-plan arms.Movs e = refl
+  general-plan arms.Cmps e = refl
+  general-plan arms.Branch e = left (isBranch (i .a)) (one place.Branch) (generally i) (sym path-of-branch ∙ e)
+  general-plan arms.Xbegin e = left (isXbegin (i .a)) (one place.Branch) (generally i) (sym path-of-xbegin ∙ e)
+  general-plan arms.Feni e = cc
+  general-plan arms.Fdisi e = cc
+  general-plan arms.Fsetpm e = cc
+  general-plan arms.Hreset e = cc
+  general-plan arms.Lsl e = left (isRegister (i .a) && isRegister (i .b)) (two (plain 0) (named (lslSource (i .a) (i .b)))) (generally i) (sym path-of-lsl ∙ e)
+  general-plan arms.Prefetch e = cc
+  general-plan arms.Sgdt e = cc
+  general-plan arms.Lss e = cc
+  general-plan arms.Nop e = taken (isAbsent (i .b)) (generally i) none (sym path-of-nop ∙ e)
+  general-plan arms.Monitor e = cc
+  general-plan arms.Mwait e = cc
+  general-plan arms.Invlpgb e = cc
+  general-plan arms.Rdpru e = cc
+  general-plan arms.Scas e = cc
+  general-plan arms.Lods e = cc
+  general-plan arms.Psmash e = cc
+  general-plan arms.Pvalidate e = cc
+  general-plan arms.Incssp e = refl
+  general-plan arms.Wrss e = refl
+  general-plan arms.Pblendvb e = cc
+  general-plan arms.Lea e = cc
+  general-plan arms.Pushf e = cc
+  general-plan arms.Aam e = left (eqb (i .imm) 10) none (generally i) (sym path-of-aam ∙ e)
+  general-plan arms.Fcom e = cc
+  general-plan arms.Fadd e = cc
+  general-plan arms.Fbld e = cc
+  general-plan arms.Fbstp e = cc
 
   -- ---- The plan of an arm that keeps its record
 
@@ -198,30 +160,30 @@ module _ (i : Instruction) where
   keeps : (v : Plan) (arm : Arm) (t : Bool) → generalPath arm i ≡ t → cond t v (planOf arm i) ≡ v → KeptAs v arm
   keeps v arm t e k = ap (λ (u : Bool). cond u v (planOf arm i)) e ∙ k
 
-  pub kept-branch : Each (KeptAs (one place.Branch)) (Branch ∷ Xbegin ∷ [])
+  pub kept-branch : Each (KeptAs (one place.Branch)) (arms.Branch ∷ arms.Xbegin ∷ [])
   unfolding planOf
   kept-branch = (
-    keeps (one place.Branch) Branch (not (isBranch (i .a))) path-of-branch (same-if-held (isBranch (i .a)) (one place.Branch) (generally i)),
-    (keeps (one place.Branch) Xbegin (not (isXbegin (i .a))) path-of-xbegin (same-if-held (isXbegin (i .a)) (one place.Branch) (generally i)), tt),
+    keeps (one place.Branch) arms.Branch (not (isBranch (i .a))) path-of-branch (same-if-held (isBranch (i .a)) (one place.Branch) (generally i)),
+    (keeps (one place.Branch) arms.Xbegin (not (isXbegin (i .a))) path-of-xbegin (same-if-held (isXbegin (i .a)) (one place.Branch) (generally i)), tt),
   )
 
-  pub kept-lsl : (arm : Arm) → arm ≡ Lsl → generalPath arm i ≡ false → planOf arm i ≡ two (plain 0) (named (lslSource (i .a) (i .b)))
+  pub kept-lsl : (arm : Arm) → arm ≡ arms.Lsl → generalPath arm i ≡ false → planOf arm i ≡ two (plain 0) (named (lslSource (i .a) (i .b)))
   unfolding planOf
   kept-lsl arm is e =
       ap (λ (x : Arm). planOf x i) is
       ∙ held (isRegister (i .a) && isRegister (i .b)) (two (plain 0) (named (lslSource (i .a) (i .b)))) (generally i) (sym path-of-lsl ∙ (ap (λ (x : Arm). generalPath x i) (sym is) ∙ e))
 
-  pub kept-monitor : Each (λ (x : Arm). planOf x i ≡ three (named eax) (named ecx) (named edx)) (Monitor ∷ Pvalidate ∷ [])
+  pub kept-monitor : Each (λ (x : Arm). planOf x i ≡ three (named eax) (named ecx) (named edx)) (arms.Monitor ∷ arms.Pvalidate ∷ [])
   unfolding planOf
   kept-monitor = (refl, (refl, tt))
 
-  kept-nop : KeptAs none Nop
+  kept-nop : KeptAs none arms.Nop
   unfolding planOf
-  kept-nop = keeps none Nop (isAbsent (i .b)) path-of-nop (same-if-left (isAbsent (i .b)) none (generally i))
+  kept-nop = keeps none arms.Nop (isAbsent (i .b)) path-of-nop (same-if-left (isAbsent (i .b)) none (generally i))
 
-  kept-aam : KeptAs none Aam
+  kept-aam : KeptAs none arms.Aam
   unfolding planOf
-  kept-aam = keeps none Aam (not (eqb (i .imm) 10)) path-of-aam (same-if-held (eqb (i .imm) 10) none (generally i))
+  kept-aam = keeps none arms.Aam (not (eqb (i .imm) 10)) path-of-aam (same-if-held (eqb (i .imm) 10) none (generally i))
 
   kept-first : Each (KeptAs none) silentFirst
   unfolding planOf

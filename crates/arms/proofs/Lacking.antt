@@ -34,45 +34,7 @@ use Rattle.places.specs.declared.Plan.{Plan}
 use Rattle.places.specs.Labels.{labelNumber}
 use Rattle.bodies.proofs.Picks.{neither-right}
 use Rattle.names.specs.declared.Arm.{Arm}
-use Rattle.names.specs.declared.Arm.the-variants.{
-  General,
-  Qword,
-  Mmword,
-  Jmpf,
-  Callf,
-  Lds,
-  Movs,
-  Cmps,
-  Branch,
-  Xbegin,
-  Feni,
-  Fdisi,
-  Fsetpm,
-  Hreset,
-  Lsl,
-  Prefetch,
-  Sgdt,
-  Lss,
-  Nop,
-  Monitor,
-  Mwait,
-  Invlpgb,
-  Rdpru,
-  Scas,
-  Lods,
-  Psmash,
-  Pvalidate,
-  Incssp,
-  Wrss,
-  Pblendvb,
-  Lea,
-  Pushf,
-  Aam,
-  Fcom,
-  Fadd,
-  Fbld,
-  Fbstp,
-}
+use Rattle.names.specs.declared.Arm.the-variants as arms
 use Rattle.arms.specs.Tests.{isBranch, isXbegin, lslSource, hasVector}
 use Rattle.arms.specs.Labels.{sizeLabel, generalLabel, lssLabel, tbyteLabel}
 use Rattle.arms.specs.Plans.{
@@ -202,42 +164,42 @@ memory-there o r is e = not-false (isMemory o) (sym is ∙ e)
 
 pub plan-lacking : (arm : Arm) (i : Instruction) → shapeRefused arm i ≡ false → planLacks i (planOf arm i) ≡ sizeRefused arm i
 unfolding planOf sizeRefused planLacks
-plan-lacking General i s = lacking-generally i ∙ simp or-false
-plan-lacking Qword i s = lacking-general never i ∙ simp or-false
-plan-lacking Mmword i s = lacking-general always i ∙ simp or-false
-plan-lacking Jmpf i s = lacking-general (byRegisters i true false) i ∙ simp or-false
-plan-lacking Callf i s = lacking-general (byRegisters i true false) i ∙ simp or-false
-plan-lacking Lds i s = lacking-general (byRegisters i false true) i ∙ simp or-false
-plan-lacking Movs i s = lacking-path (hasVector i) false false UnlessDs i ∙ simp or-false
-plan-lacking Cmps i s = lacking-generally i ∙ simp or-false
-plan-lacking Branch i s = lacking-else i (isBranch (i .a)) (one place.Branch) refl ∙ simp or-false
-plan-lacking Xbegin i s = lacking-else i (isXbegin (i .a)) (one place.Branch) refl ∙ simp or-false
-plan-lacking Feni i s = refl
-plan-lacking Fdisi i s = refl
-plan-lacking Fsetpm i s = refl
-plan-lacking Hreset i s = refl
-plan-lacking Lsl i s = lacking-else i (isRegister (i .a) && isRegister (i .b)) (two (plain 0) (named (lslSource (i .a) (i .b)))) refl ∙ simp or-false
-plan-lacking Prefetch i s = refl
-plan-lacking Sgdt i s = refl
-plan-lacking Lss i s =
+plan-lacking arms.General i s = lacking-generally i ∙ simp or-false
+plan-lacking arms.Qword i s = lacking-general never i ∙ simp or-false
+plan-lacking arms.Mmword i s = lacking-general always i ∙ simp or-false
+plan-lacking arms.Jmpf i s = lacking-general (byRegisters i true false) i ∙ simp or-false
+plan-lacking arms.Callf i s = lacking-general (byRegisters i true false) i ∙ simp or-false
+plan-lacking arms.Lds i s = lacking-general (byRegisters i false true) i ∙ simp or-false
+plan-lacking arms.Movs i s = lacking-path (hasVector i) false false UnlessDs i ∙ simp or-false
+plan-lacking arms.Cmps i s = lacking-generally i ∙ simp or-false
+plan-lacking arms.Branch i s = lacking-else i (isBranch (i .a)) (one place.Branch) refl ∙ simp or-false
+plan-lacking arms.Xbegin i s = lacking-else i (isXbegin (i .a)) (one place.Branch) refl ∙ simp or-false
+plan-lacking arms.Feni i s = refl
+plan-lacking arms.Fdisi i s = refl
+plan-lacking arms.Fsetpm i s = refl
+plan-lacking arms.Hreset i s = refl
+plan-lacking arms.Lsl i s = lacking-else i (isRegister (i .a) && isRegister (i .b)) (two (plain 0) (named (lslSource (i .a) (i .b)))) refl ∙ simp or-false
+plan-lacking arms.Prefetch i s = refl
+plan-lacking arms.Sgdt i s = refl
+plan-lacking arms.Lss i s =
     lacking-second (lssLabel (i .size)) Hidden false 1 i place.Nothing refl
     ∙ rw (missing-for-lss (i .size), memory-there (i .b) _ refl (neither-right (isAbsent (i .a)) _ (sym (at-lss i) ∙ s)))
-plan-lacking Nop i s = lacking-when i (isAbsent (i .b)) (generally i) none (generalRefused false false i) (lacking-generally i) refl ∙ simp or-false
-plan-lacking Monitor i s = refl
-plan-lacking Mwait i s = refl
-plan-lacking Invlpgb i s = refl
-plan-lacking Rdpru i s = refl
-plan-lacking Scas i s = lacking-first (sizeLabel (i .size)) Own false 0 i ∙ simp or-false (rw (missing-by-size (i .size), memory-there (i .a) _ (first-memory i .1 .0) s))
-plan-lacking Lods i s = lacking-first (sizeLabel (i .size)) Hidden false 1 i ∙ simp or-false (rw (missing-by-size (i .size), memory-there (i .b) _ (at-lods i) s))
-plan-lacking Psmash i s = refl
-plan-lacking Pvalidate i s = refl
-plan-lacking Incssp i s = lacking-generally i ∙ simp or-false
-plan-lacking Wrss i s = lacking-generally i ∙ simp or-false
-plan-lacking Pblendvb i s = lacking-second (sizeLabel (i .size)) Own false 1 i (named xmm0) refl ∙ simp or-false (rw (missing-by-size (i .size)))
-plan-lacking Lea i s = refl
-plan-lacking Pushf i s = refl
-plan-lacking Aam i s = lacking-else i (eqb (i .imm) 10) none refl ∙ simp or-false
-plan-lacking Fcom i s = lacking-first (sizeLabel (i .size)) Own false 1 i ∙ simp or-false (rw (missing-by-size (i .size)))
-plan-lacking Fadd i s = lacking-fadd i ∙ simp or-false
-plan-lacking Fbld i s = lacking-first (tbyteLabel (i .size)) Own true 1 i ∙ simp or-false (rw (missing-with-tbyte (i .size)))
-plan-lacking Fbstp i s = lacking-first (tbyteLabel (i .size)) Own false 0 i ∙ simp or-false (rw (missing-with-tbyte (i .size)))
+plan-lacking arms.Nop i s = lacking-when i (isAbsent (i .b)) (generally i) none (generalRefused false false i) (lacking-generally i) refl ∙ simp or-false
+plan-lacking arms.Monitor i s = refl
+plan-lacking arms.Mwait i s = refl
+plan-lacking arms.Invlpgb i s = refl
+plan-lacking arms.Rdpru i s = refl
+plan-lacking arms.Scas i s = lacking-first (sizeLabel (i .size)) Own false 0 i ∙ simp or-false (rw (missing-by-size (i .size), memory-there (i .a) _ (first-memory i .1 .0) s))
+plan-lacking arms.Lods i s = lacking-first (sizeLabel (i .size)) Hidden false 1 i ∙ simp or-false (rw (missing-by-size (i .size), memory-there (i .b) _ (at-lods i) s))
+plan-lacking arms.Psmash i s = refl
+plan-lacking arms.Pvalidate i s = refl
+plan-lacking arms.Incssp i s = lacking-generally i ∙ simp or-false
+plan-lacking arms.Wrss i s = lacking-generally i ∙ simp or-false
+plan-lacking arms.Pblendvb i s = lacking-second (sizeLabel (i .size)) Own false 1 i (named xmm0) refl ∙ simp or-false (rw (missing-by-size (i .size)))
+plan-lacking arms.Lea i s = refl
+plan-lacking arms.Pushf i s = refl
+plan-lacking arms.Aam i s = lacking-else i (eqb (i .imm) 10) none refl ∙ simp or-false
+plan-lacking arms.Fcom i s = lacking-first (sizeLabel (i .size)) Own false 1 i ∙ simp or-false (rw (missing-by-size (i .size)))
+plan-lacking arms.Fadd i s = lacking-fadd i ∙ simp or-false
+plan-lacking arms.Fbld i s = lacking-first (tbyteLabel (i .size)) Own true 1 i ∙ simp or-false (rw (missing-with-tbyte (i .size)))
+plan-lacking arms.Fbstp i s = lacking-first (tbyteLabel (i .size)) Own false 0 i ∙ simp or-false (rw (missing-with-tbyte (i .size)))

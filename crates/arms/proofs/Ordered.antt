@@ -31,45 +31,7 @@ use Rattle.bodies.specs.Decoding.{instructionOf}
 use Rattle.bodies.proofs.Accepted.{absent-from-count}
 use Rattle.bodies.proofs.Picks.{neither-left, neither-right}
 use Rattle.names.specs.declared.Arm.{Arm}
-use Rattle.names.specs.declared.Arm.the-variants.{
-  General,
-  Qword,
-  Mmword,
-  Jmpf,
-  Callf,
-  Lds,
-  Movs,
-  Cmps,
-  Branch,
-  Xbegin,
-  Feni,
-  Fdisi,
-  Fsetpm,
-  Hreset,
-  Lsl,
-  Prefetch,
-  Sgdt,
-  Lss,
-  Nop,
-  Monitor,
-  Mwait,
-  Invlpgb,
-  Rdpru,
-  Scas,
-  Lods,
-  Psmash,
-  Pvalidate,
-  Incssp,
-  Wrss,
-  Pblendvb,
-  Lea,
-  Pushf,
-  Aam,
-  Fcom,
-  Fadd,
-  Fbld,
-  Fbstp,
-}
+use Rattle.names.specs.declared.Arm.the-variants as arms
 use Rattle.arms.specs.Tests.{isBranch, isXbegin, lslSource}
 use Rattle.arms.specs.Labels.{sizeLabel, lssLabel, tbyteLabel}
 use Rattle.arms.specs.Plans.{LabelRule, plain, labelled, st, named, none, one, two, three, spread, general, never, always, byRegisters, generally, movsLabel, fadd, planOf}
@@ -159,50 +121,50 @@ pub from-the-left :
     shapeRefused arm i ≡ false →
     fromTheLeft (itemsAt mode i (planOf arm i)) ≡ true
 unfolding planOf itemsAt itemAt
-from-the-left mode General i e s = ordered-generally mode i e
-from-the-left mode Qword i e s = ordered-general mode i e never
-from-the-left mode Mmword i e s = ordered-general mode i e always
-from-the-left mode Jmpf i e s = ordered-general mode i e (byRegisters i true false)
-from-the-left mode Callf i e s = ordered-general mode i e (byRegisters i true false)
-from-the-left mode Lds i e s = ordered-general mode i e (byRegisters i false true)
-from-the-left mode Movs i e s = ordered-spread mode i e (movsLabel i) (movsLabel i) UnlessDs
-from-the-left mode Cmps i e s = ordered-generally mode i e
-from-the-left mode Branch i e s = ordered-else mode i e (isBranch (i .a)) (one place.Branch) (ordered-one mode i place.Branch)
-from-the-left mode Xbegin i e s = ordered-else mode i e (isXbegin (i .a)) (one place.Branch) (ordered-one mode i place.Branch)
-from-the-left mode Feni i e s = refl
-from-the-left mode Fdisi i e s = refl
-from-the-left mode Fsetpm i e s = refl
-from-the-left mode Hreset i e s = ordered-two mode i (plain 0) (named eax) (operand-shows mode i 0 0 Hidden false (sym (first-there i .0) ∙ s))
-from-the-left mode Lsl i e s =
+from-the-left mode arms.General i e s = ordered-generally mode i e
+from-the-left mode arms.Qword i e s = ordered-general mode i e never
+from-the-left mode arms.Mmword i e s = ordered-general mode i e always
+from-the-left mode arms.Jmpf i e s = ordered-general mode i e (byRegisters i true false)
+from-the-left mode arms.Callf i e s = ordered-general mode i e (byRegisters i true false)
+from-the-left mode arms.Lds i e s = ordered-general mode i e (byRegisters i false true)
+from-the-left mode arms.Movs i e s = ordered-spread mode i e (movsLabel i) (movsLabel i) UnlessDs
+from-the-left mode arms.Cmps i e s = ordered-generally mode i e
+from-the-left mode arms.Branch i e s = ordered-else mode i e (isBranch (i .a)) (one place.Branch) (ordered-one mode i place.Branch)
+from-the-left mode arms.Xbegin i e s = ordered-else mode i e (isXbegin (i .a)) (one place.Branch) (ordered-one mode i place.Branch)
+from-the-left mode arms.Feni i e s = refl
+from-the-left mode arms.Fdisi i e s = refl
+from-the-left mode arms.Fsetpm i e s = refl
+from-the-left mode arms.Hreset i e s = ordered-two mode i (plain 0) (named eax) (operand-shows mode i 0 0 Hidden false (sym (first-there i .0) ∙ s))
+from-the-left mode arms.Lsl i e s =
     let source = named (lslSource (i .a) (i .b)) in
     let a-there = register-there (i .a) (neither-left _ _ (sym (at-lsl i) ∙ s)) in
     ordered-else mode i e (isRegister (i .a) && isRegister (i .b)) (two (plain 0) source) (ordered-two mode i (plain 0) source (operand-shows mode i 0 0 Hidden false a-there))
-from-the-left mode Prefetch i e s = ordered-one mode i (plain 0)
-from-the-left mode Sgdt i e s = ordered-one mode i (labelled Fword Hidden 0)
-from-the-left mode Lss i e s =
+from-the-left mode arms.Prefetch i e s = ordered-one mode i (plain 0)
+from-the-left mode arms.Sgdt i e s = ordered-one mode i (labelled Fword Hidden 0)
+from-the-left mode arms.Lss i e s =
     ordered-two mode i (plain 0) (labelled (lssLabel (i .size)) Hidden 1) (operand-shows mode i 0 0 Hidden false (neither-left (isAbsent (i .a)) _ (sym (at-lss i) ∙ s)))
-from-the-left mode Nop i e s = ordered-either mode i (isAbsent (i .b)) (generally i) none (ordered-generally mode i e) refl
-from-the-left mode Monitor i e s = refl
-from-the-left mode Mwait i e s = refl
-from-the-left mode Invlpgb i e s = ordered-two mode i (plain 0) (plain 2) (operand-shows mode i 0 0 Hidden false (neither-left (isAbsent (i .a)) _ (sym (at-invlpgb i) ∙ s)))
-from-the-left mode Rdpru i e s = refl
-from-the-left mode Scas i e s = ordered-one mode i (labelled (sizeLabel (i .size)) Own 0)
-from-the-left mode Lods i e s = ordered-one mode i (labelled (sizeLabel (i .size)) Hidden 1)
-from-the-left mode Psmash i e s = refl
-from-the-left mode Pvalidate i e s = refl
-from-the-left mode Incssp i e s = ordered-generally mode i e
-from-the-left mode Wrss i e s = ordered-generally mode i e
-from-the-left mode Pblendvb i e s =
+from-the-left mode arms.Nop i e s = ordered-either mode i (isAbsent (i .b)) (generally i) none (ordered-generally mode i e) refl
+from-the-left mode arms.Monitor i e s = refl
+from-the-left mode arms.Mwait i e s = refl
+from-the-left mode arms.Invlpgb i e s = ordered-two mode i (plain 0) (plain 2) (operand-shows mode i 0 0 Hidden false (neither-left (isAbsent (i .a)) _ (sym (at-invlpgb i) ∙ s)))
+from-the-left mode arms.Rdpru i e s = refl
+from-the-left mode arms.Scas i e s = ordered-one mode i (labelled (sizeLabel (i .size)) Own 0)
+from-the-left mode arms.Lods i e s = ordered-one mode i (labelled (sizeLabel (i .size)) Hidden 1)
+from-the-left mode arms.Psmash i e s = refl
+from-the-left mode arms.Pvalidate i e s = refl
+from-the-left mode arms.Incssp i e s = ordered-generally mode i e
+from-the-left mode arms.Wrss i e s = ordered-generally mode i e
+from-the-left mode arms.Pblendvb i e s =
     let there = sym (both-there i .0) ∙ s in
     ordered-three mode i (plain 0) (labelled (sizeLabel (i .size)) Own 1) (named xmm0) (operand-shows mode i 0 0 Hidden false (neither-left (isAbsent (i .a)) (isAbsent (i .b)) there))
     (operand-shows mode i 1 _ Own false (neither-right (isAbsent (i .a)) (isAbsent (i .b)) there))
-from-the-left mode Lea i e s = ordered-two mode i (plain 0) (plain 1) (operand-shows mode i 0 0 Hidden false (neither-left (isAbsent (i .a)) _ (sym (both-there i .1 .0) ∙ s)))
-from-the-left mode Pushf i e s = refl
-from-the-left mode Aam i e s = ordered-else mode i e (eqb (i .imm) 10) none refl
-from-the-left mode Fcom i e s = ordered-one mode i (labelled (sizeLabel (i .size)) Own 1)
-from-the-left mode Fadd i e s = ordered-fadd mode i (neither-left _ _ (neither-left _ _ (sym (at-fadd i) ∙ s)))
-from-the-left mode Fbld i e s = ordered-one mode i (place.Operand 1 (labelNumber (tbyteLabel (i .size))) Own true)
-from-the-left mode Fbstp i e s = ordered-one mode i (labelled (tbyteLabel (i .size)) Own 0)
+from-the-left mode arms.Lea i e s = ordered-two mode i (plain 0) (plain 1) (operand-shows mode i 0 0 Hidden false (neither-left (isAbsent (i .a)) _ (sym (both-there i .1 .0) ∙ s)))
+from-the-left mode arms.Pushf i e s = refl
+from-the-left mode arms.Aam i e s = ordered-else mode i e (eqb (i .imm) 10) none refl
+from-the-left mode arms.Fcom i e s = ordered-one mode i (labelled (sizeLabel (i .size)) Own 1)
+from-the-left mode arms.Fadd i e s = ordered-fadd mode i (neither-left _ _ (neither-left _ _ (sym (at-fadd i) ∙ s)))
+from-the-left mode arms.Fbld i e s = ordered-one mode i (place.Operand 1 (labelNumber (tbyteLabel (i .size))) Own true)
+from-the-left mode arms.Fbstp i e s = ordered-one mode i (labelled (tbyteLabel (i .size)) Own 0)
 
 -- after a place that is not before the count stands none that is
 before-count : (k n : ℕ) → (not (not (ltb k n)) || not (ltb (suc k) n)) ≡ true
