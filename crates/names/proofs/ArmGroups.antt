@@ -10,6 +10,9 @@ use lib.Dec.{T, T-not, eqb}
 use borrow.Author.Tests.{eq-eqb}
 use store.Enc.{and-l, and-r}
 use types.Run.{OneOf}
+use native.Mathlib.Omega.{arith}
+use denote.RattleType.{RattleType}
+use denote.Enum.Enum.{Sum, tag as tagIn}
 use denote.Enum.Declared.{tagOf}
 use Rattle.text.specs.Words.{every}
 use Rattle.text.proofs.Tables.{both-left, both-right}
@@ -23,47 +26,20 @@ use Rattle.names.specs.Among.{isOneOf}
 abbrev pub tag : Arm → ℕ
 tag x = tagOf the-type x
 
-at-tag : (x : Arm) → armAt (tag x) ≡ x
-at-tag arm.General = refl
-at-tag arm.Qword = refl
-at-tag arm.Mmword = refl
-at-tag arm.Jmpf = refl
-at-tag arm.Callf = refl
-at-tag arm.Lds = refl
-at-tag arm.Movs = refl
-at-tag arm.Cmps = refl
-at-tag arm.Branch = refl
-at-tag arm.Xbegin = refl
-at-tag arm.Feni = refl
-at-tag arm.Fdisi = refl
-at-tag arm.Fsetpm = refl
-at-tag arm.Hreset = refl
-at-tag arm.Lsl = refl
-at-tag arm.Prefetch = refl
-at-tag arm.Sgdt = refl
-at-tag arm.Lss = refl
-at-tag arm.Nop = refl
-at-tag arm.Monitor = refl
-at-tag arm.Mwait = refl
-at-tag arm.Invlpgb = refl
-at-tag arm.Rdpru = refl
-at-tag arm.Scas = refl
-at-tag arm.Lods = refl
-at-tag arm.Psmash = refl
-at-tag arm.Pvalidate = refl
-at-tag arm.Incssp = refl
-at-tag arm.Wrss = refl
-at-tag arm.Pblendvb = refl
-at-tag arm.Lea = refl
-at-tag arm.Pushf = refl
-at-tag arm.Aam = refl
-at-tag arm.Fcom = refl
-at-tag arm.Fadd = refl
-at-tag arm.Fbld = refl
-at-tag arm.Fbstp = refl
+-- of a type with n variants that hold nothing, a value is known by its tag
+abbrev bare : ℕ → List (List RattleType)
+bare zero = []
+bare (suc n) = [] ∷ bare n
+
+same-tag : (n : ℕ) (x y : Sum (bare n)) → tagIn (bare n) x ≡ tagIn (bare n) y → x ≡ y
+same-tag zero x y e = absurd x
+same-tag (suc n) (inl x) (inl y) e = refl
+same-tag (suc n) (inl x) (inr y) e = absurd (omega arith)
+same-tag (suc n) (inr x) (inl y) e = absurd (omega arith)
+same-tag (suc n) (inr x) (inr y) e = ap inr (same-tag n x y (omega arith))
 
 by-tag : (x y : Arm) → tag x ≡ tag y → x ≡ y
-by-tag x y e = sym (at-tag x) ∙ (ap armAt e ∙ at-tag y)
+by-tag x y e = the-type .to-one x y (same-tag 37 (the-type .to x) (the-type .to y) e)
 
 -- the first k arms
 abbrev pub firstArms : ℕ → List Arm

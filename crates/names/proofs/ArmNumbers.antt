@@ -24,45 +24,10 @@ inOrder =
 abbrev pub armAt : ℕ → Arm
 armAt n = getD inOrder n arm.General
 
--- an arm's number leads back to it
-pub at-number : (a : Arm) → armAt (number a) ≡ a
-at-number arm.General = refl
-at-number arm.Qword = refl
-at-number arm.Mmword = refl
-at-number arm.Jmpf = refl
-at-number arm.Callf = refl
-at-number arm.Lds = refl
-at-number arm.Movs = refl
-at-number arm.Cmps = refl
-at-number arm.Branch = refl
-at-number arm.Xbegin = refl
-at-number arm.Feni = refl
-at-number arm.Fdisi = refl
-at-number arm.Fsetpm = refl
-at-number arm.Hreset = refl
-at-number arm.Lsl = refl
-at-number arm.Prefetch = refl
-at-number arm.Sgdt = refl
-at-number arm.Lss = refl
-at-number arm.Nop = refl
-at-number arm.Monitor = refl
-at-number arm.Mwait = refl
-at-number arm.Invlpgb = refl
-at-number arm.Rdpru = refl
-at-number arm.Scas = refl
-at-number arm.Lods = refl
-at-number arm.Psmash = refl
-at-number arm.Pvalidate = refl
-at-number arm.Incssp = refl
-at-number arm.Wrss = refl
-at-number arm.Pblendvb = refl
-at-number arm.Lea = refl
-at-number arm.Pushf = refl
-at-number arm.Aam = refl
-at-number arm.Fcom = refl
-at-number arm.Fadd = refl
-at-number arm.Fbld = refl
-at-number arm.Fbstp = refl
+-- the number of each opcode's arm leads back to it
+numbers-lead-back : map (λ (a : Arm). armAt (number a)) arms ≡ arms
+unfolding arms opcodes
+numbers-lead-back = refl
 
 -- the number is none of 1 to k
 abbrev pub NoneTo : ℕ → ℕ → Type 0
@@ -85,7 +50,11 @@ module _ (table : List ℕ) (is : table ≡ map number arms) (opcode : ℕ) wher
   -- the arm whose number the table has at the opcode is the opcode's
   pub arm-here : armAt (getD table opcode 0) ≡ armOf opcode
   unfolding armOf
-  arm-here = ap (λ (t : List ℕ). armAt (getD t opcode 0)) is ∙ ap armAt (List·getD-map number arms opcode arm.General) ∙ at-number (getD arms opcode arm.General)
+  arm-here =
+      ap (λ (t : List ℕ). armAt (getD t opcode 0)) is
+      ∙ ap armAt (List·getD-map number arms opcode arm.General)
+      ∙ sym (List·getD-map (λ (a : Arm). armAt (number a)) arms opcode arm.General)
+      ∙ ap (λ (xs : List Arm). getD xs opcode arm.General) numbers-lead-back
 
   pub arm-found : (k : ℕ) → getD table opcode 0 ≡ k → armAt k ≡ armOf opcode
   arm-found k found = ap armAt (sym found) ∙ arm-here
