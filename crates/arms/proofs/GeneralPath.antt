@@ -1,4 +1,4 @@
--- The general path: which records take it, the plan that it makes of them, and the plan of an arm that keeps its record.
+-- The general path: which records take it, the plan that it makes of them, and the plan of an arm that does not leave its record to it.
 -- Assumes nothing.
 use mathlib.Core.Path.{_≡_, refl, sym, ap, _∙_}
 use mathlib.Core.Bool.{Bool, true, false, cond, not, _&&_, or-false}
@@ -18,7 +18,7 @@ use Rattle.names.specs.Among.{isArm, isOneOf}
 use Rattle.arms.specs.Tests.{isBranch, isXbegin, lslSource}
 use Rattle.arms.specs.Code.{mmwordFor}
 use Rattle.arms.specs.Labels.{generalLabel}
-use Rattle.arms.specs.Plans.{plain, named, none, one, two, three, spread, general, generally, planOf}
+use Rattle.arms.specs.Plans.{plain, named, none, one, two, three, spread, general, generalPlan, planOf}
 use Rattle.arms.specs.Code.{generalBy}
 use Rattle.arms.specs.Size.{generalPath}
 use Rattle.names.proofs.ArmGroups.{tag, at-group, of-group, Each}
@@ -32,7 +32,7 @@ taken : {X : Type 0} (p : Bool) (x y : X) → p ≡ true → cond p x y ≡ x
 taken true x y e = refl
 taken false x y e = cc
 
--- an arm that keeps its record where the test holds, and tests that decide between a plan and the same plan
+-- an arm that leaves no record to it where the test holds, and tests that decide between a plan and the same plan
 held : {X : Type 0} (p : Bool) (x y : X) → not p ≡ false → cond p x y ≡ x
 held true x y e = refl
 held false x y e = cc
@@ -75,7 +75,7 @@ module _ (arm : Arm) (mmword : Bool) (size : ℕ) where
       (of-group (λ (x : Arm). isArm x arms.Lds) false alike arm tt o)
       (of-group (λ (x : Arm). isArm x arms.Movs) false alike arm tt o)
 
--- the arms that show their name alone of a record that they keep, if they keep any: in the order of the declaration, in three parts
+-- the arms that show their name alone of a record that they do not leave to it, if there is any: in the order of the declaration, in three parts
 abbrev silentFirst : List Arm
 silentFirst = arms.General ∷ arms.Qword ∷ arms.Mmword ∷ arms.Jmpf ∷ arms.Callf ∷ arms.Lds ∷ arms.Movs ∷ arms.Cmps ∷ []
 
@@ -118,17 +118,17 @@ module _ (i : Instruction) where
   general-plan arms.Lds e = refl
   general-plan arms.Movs e = refl
   general-plan arms.Cmps e = refl
-  general-plan arms.Branch e = left (isBranch (i .a)) (one place.Branch) (generally i) (sym path-of-branch ∙ e)
-  general-plan arms.Xbegin e = left (isXbegin (i .a)) (one place.Branch) (generally i) (sym path-of-xbegin ∙ e)
+  general-plan arms.Branch e = left (isBranch (i .a)) (one place.Branch) (generalPlan i) (sym path-of-branch ∙ e)
+  general-plan arms.Xbegin e = left (isXbegin (i .a)) (one place.Branch) (generalPlan i) (sym path-of-xbegin ∙ e)
   general-plan arms.Feni e = cc
   general-plan arms.Fdisi e = cc
   general-plan arms.Fsetpm e = cc
   general-plan arms.Hreset e = cc
-  general-plan arms.Lsl e = left (isRegister (i .a) && isRegister (i .b)) (two (plain 0) (named (lslSource (i .a) (i .b)))) (generally i) (sym path-of-lsl ∙ e)
+  general-plan arms.Lsl e = left (isRegister (i .a) && isRegister (i .b)) (two (plain 0) (named (lslSource (i .a) (i .b)))) (generalPlan i) (sym path-of-lsl ∙ e)
   general-plan arms.Prefetch e = cc
   general-plan arms.Sgdt e = cc
   general-plan arms.Lss e = cc
-  general-plan arms.Nop e = taken (isAbsent (i .b)) (generally i) none (sym path-of-nop ∙ e)
+  general-plan arms.Nop e = taken (isAbsent (i .b)) (generalPlan i) none (sym path-of-nop ∙ e)
   general-plan arms.Monitor e = cc
   general-plan arms.Mwait e = cc
   general-plan arms.Invlpgb e = cc
@@ -142,65 +142,65 @@ module _ (i : Instruction) where
   general-plan arms.Pblendvb e = cc
   general-plan arms.Lea e = cc
   general-plan arms.Pushf e = cc
-  general-plan arms.Aam e = left (eqb (i .imm) 10) none (generally i) (sym path-of-aam ∙ e)
+  general-plan arms.Aam e = left (eqb (i .imm) 10) none (generalPlan i) (sym path-of-aam ∙ e)
   general-plan arms.Fcom e = cc
   general-plan arms.Fadd e = cc
   general-plan arms.Fbld e = cc
   general-plan arms.Fbstp e = cc
 
-  -- ---- The plan of an arm that keeps its record
+  -- ---- The plan of an arm that does not leave its record to it
 
-  abbrev pub KeptAs : Plan → Arm → Type 0
-  KeptAs v arm = cond (generalPath arm i) v (planOf arm i) ≡ v
+  abbrev pub OwnPlan : Plan → Arm → Type 0
+  OwnPlan v arm = cond (generalPath arm i) v (planOf arm i) ≡ v
 
-  pub kept-plan : (v : Plan) (xs : List Arm) (arm : Arm) → Each (KeptAs v) xs → OneOf (map tag xs) (tag arm) → generalPath arm i ≡ false → planOf arm i ≡ v
-  kept-plan v xs arm all keys e =
+  pub own-plan : (v : Plan) (xs : List Arm) (arm : Arm) → Each (OwnPlan v) xs → OneOf (map tag xs) (tag arm) → generalPath arm i ≡ false → planOf arm i ≡ v
+  own-plan v xs arm all keys e =
       ap (λ (t : Bool). cond t v (planOf arm i)) (sym e) ∙ at-group (λ (x : Arm). cond (generalPath x i) v (planOf x i)) v xs arm all keys
 
-  keeps : (v : Plan) (arm : Arm) (t : Bool) → generalPath arm i ≡ t → cond t v (planOf arm i) ≡ v → KeptAs v arm
-  keeps v arm t e k = ap (λ (u : Bool). cond u v (planOf arm i)) e ∙ k
+  own-by : (v : Plan) (arm : Arm) (t : Bool) → generalPath arm i ≡ t → cond t v (planOf arm i) ≡ v → OwnPlan v arm
+  own-by v arm t e k = ap (λ (u : Bool). cond u v (planOf arm i)) e ∙ k
 
-  pub kept-branch : Each (KeptAs (one place.Branch)) (arms.Branch ∷ arms.Xbegin ∷ [])
+  pub own-branch : Each (OwnPlan (one place.Branch)) (arms.Branch ∷ arms.Xbegin ∷ [])
   unfolding planOf
-  kept-branch = (
-    keeps (one place.Branch) arms.Branch (not (isBranch (i .a))) path-of-branch (same-if-held (isBranch (i .a)) (one place.Branch) (generally i)),
-    (keeps (one place.Branch) arms.Xbegin (not (isXbegin (i .a))) path-of-xbegin (same-if-held (isXbegin (i .a)) (one place.Branch) (generally i)), tt),
+  own-branch = (
+    own-by (one place.Branch) arms.Branch (not (isBranch (i .a))) path-of-branch (same-if-held (isBranch (i .a)) (one place.Branch) (generalPlan i)),
+    (own-by (one place.Branch) arms.Xbegin (not (isXbegin (i .a))) path-of-xbegin (same-if-held (isXbegin (i .a)) (one place.Branch) (generalPlan i)), tt),
   )
 
-  pub kept-lsl : (arm : Arm) → arm ≡ arms.Lsl → generalPath arm i ≡ false → planOf arm i ≡ two (plain 0) (named (lslSource (i .a) (i .b)))
+  pub own-lsl : (arm : Arm) → arm ≡ arms.Lsl → generalPath arm i ≡ false → planOf arm i ≡ two (plain 0) (named (lslSource (i .a) (i .b)))
   unfolding planOf
-  kept-lsl arm is e =
+  own-lsl arm is e =
       ap (λ (x : Arm). planOf x i) is
-      ∙ held (isRegister (i .a) && isRegister (i .b)) (two (plain 0) (named (lslSource (i .a) (i .b)))) (generally i) (sym path-of-lsl ∙ (ap (λ (x : Arm). generalPath x i) (sym is) ∙ e))
+      ∙ held (isRegister (i .a) && isRegister (i .b)) (two (plain 0) (named (lslSource (i .a) (i .b)))) (generalPlan i) (sym path-of-lsl ∙ (ap (λ (x : Arm). generalPath x i) (sym is) ∙ e))
 
-  pub kept-monitor : Each (λ (x : Arm). planOf x i ≡ three (named eax) (named ecx) (named edx)) (arms.Monitor ∷ arms.Pvalidate ∷ [])
+  pub own-monitor : Each (λ (x : Arm). planOf x i ≡ three (named eax) (named ecx) (named edx)) (arms.Monitor ∷ arms.Pvalidate ∷ [])
   unfolding planOf
-  kept-monitor = (refl, (refl, tt))
+  own-monitor = (refl, (refl, tt))
 
-  kept-nop : KeptAs none arms.Nop
+  own-nop : OwnPlan none arms.Nop
   unfolding planOf
-  kept-nop = keeps none arms.Nop (isAbsent (i .b)) path-of-nop (same-if-left (isAbsent (i .b)) none (generally i))
+  own-nop = own-by none arms.Nop (isAbsent (i .b)) path-of-nop (same-if-left (isAbsent (i .b)) none (generalPlan i))
 
-  kept-aam : KeptAs none arms.Aam
+  own-aam : OwnPlan none arms.Aam
   unfolding planOf
-  kept-aam = keeps none arms.Aam (not (eqb (i .imm) 10)) path-of-aam (same-if-held (eqb (i .imm) 10) none (generally i))
+  own-aam = own-by none arms.Aam (not (eqb (i .imm) 10)) path-of-aam (same-if-held (eqb (i .imm) 10) none (generalPlan i))
 
-  kept-first : Each (KeptAs none) silentFirst
+  own-silent-first : Each (OwnPlan none) silentFirst
   unfolding planOf
-  kept-first = (refl, (refl, (refl, (refl, (refl, (refl, (refl, (refl, tt))))))))
+  own-silent-first = (refl, (refl, (refl, (refl, (refl, (refl, (refl, (refl, tt))))))))
 
-  kept-next : Each (KeptAs none) silentNext
+  own-silent-next : Each (OwnPlan none) silentNext
   unfolding planOf
-  kept-next = (refl, (refl, (refl, (kept-nop, tt))))
+  own-silent-next = (refl, (refl, (refl, (own-nop, tt))))
 
-  kept-last : Each (KeptAs none) silentLast
+  own-silent-last : Each (OwnPlan none) silentLast
   unfolding planOf
-  kept-last = (refl, (refl, (refl, (refl, (kept-aam, tt)))))
+  own-silent-last = (refl, (refl, (refl, (refl, (own-aam, tt)))))
 
-  all-of : (xs ys : List Arm) → Each (KeptAs none) xs → Each (KeptAs none) ys → Each (KeptAs none) (xs ++ ys)
+  all-of : (xs ys : List Arm) → Each (OwnPlan none) xs → Each (OwnPlan none) ys → Each (OwnPlan none) (xs ++ ys)
   all-of [] ys a b = b
   all-of (x ∷ xs) ys a b = (a .0, all-of xs ys (a .1) b)
 
-  pub kept-name : (arm : Arm) → OneOf (map tag silent) (tag arm) → generalPath arm i ≡ false → planOf arm i ≡ none
-  kept-name arm =
-      kept-plan none silent arm (all-of silentFirst (silentNext ++ silentLast) kept-first (all-of silentNext silentLast kept-next kept-last))
+  pub own-silent : (arm : Arm) → OneOf (map tag silent) (tag arm) → generalPath arm i ≡ false → planOf arm i ≡ none
+  own-silent arm =
+      own-plan none silent arm (all-of silentFirst (silentNext ++ silentLast) own-silent-first (all-of silentNext silentLast own-silent-next own-silent-last))

@@ -52,7 +52,7 @@ use Rattle.arms.specs.Plans.{
   never,
   always,
   byRegisters,
-  generally,
+  generalPlan,
   fadd,
   planOf,
 }
@@ -103,8 +103,8 @@ lacking-general : (rule : LabelRule) (i : Instruction) → planLacks i (general 
 unfolding general
 lacking-general rule i = lacking-path (rule .mmword) (rule .first) (rule .later) Own i
 
-lacking-generally : (i : Instruction) → planLacks i (generally i) ≡ generalRefused false false i
-lacking-generally i = lacking-general (byRegisters i false false) i
+lacking-general-plan : (i : Instruction) → planLacks i (generalPlan i) ≡ generalRefused false false i
+lacking-general-plan i = lacking-general (byRegisters i false false) i
 
 -- ---- Arms that choose
 
@@ -125,8 +125,8 @@ lacking-unless i true x y g e k = e
 lacking-unless i false x y g e k = k
 
 -- an arm that leaves some records to the general path
-lacking-else : (i : Instruction) (p : Bool) (x : Plan) → planLacks i x ≡ false → planLacks i (cond p x (generally i)) ≡ (not p && generalRefused false false i)
-lacking-else i p x e = lacking-unless i p x (generally i) (generalRefused false false i) e (lacking-generally i)
+lacking-else : (i : Instruction) (p : Bool) (x : Plan) → planLacks i x ≡ false → planLacks i (cond p x (generalPlan i)) ≡ (not p && generalRefused false false i)
+lacking-else i p x e = lacking-unless i p x (generalPlan i) (generalRefused false false i) e (lacking-general-plan i)
 
 -- ---- Arms with one label
 
@@ -164,14 +164,14 @@ memory-there o r is e = not-false (isMemory o) (sym is ∙ e)
 
 pub plan-lacking : (arm : Arm) (i : Instruction) → shapeRefused arm i ≡ false → planLacks i (planOf arm i) ≡ sizeRefused arm i
 unfolding planOf sizeRefused planLacks
-plan-lacking arms.General i s = lacking-generally i ∙ simp or-false
+plan-lacking arms.General i s = lacking-general-plan i ∙ simp or-false
 plan-lacking arms.Qword i s = lacking-general never i ∙ simp or-false
 plan-lacking arms.Mmword i s = lacking-general always i ∙ simp or-false
 plan-lacking arms.Jmpf i s = lacking-general (byRegisters i true false) i ∙ simp or-false
 plan-lacking arms.Callf i s = lacking-general (byRegisters i true false) i ∙ simp or-false
 plan-lacking arms.Lds i s = lacking-general (byRegisters i false true) i ∙ simp or-false
 plan-lacking arms.Movs i s = lacking-path (hasVector i) false false UnlessDs i ∙ simp or-false
-plan-lacking arms.Cmps i s = lacking-generally i ∙ simp or-false
+plan-lacking arms.Cmps i s = lacking-general-plan i ∙ simp or-false
 plan-lacking arms.Branch i s = lacking-else i (isBranch (i .a)) (one place.Branch) refl ∙ simp or-false
 plan-lacking arms.Xbegin i s = lacking-else i (isXbegin (i .a)) (one place.Branch) refl ∙ simp or-false
 plan-lacking arms.Feni i s = refl
@@ -184,7 +184,7 @@ plan-lacking arms.Sgdt i s = refl
 plan-lacking arms.Lss i s =
     lacking-second (lssLabel (i .size)) Hidden false 1 i place.Nothing refl
     ∙ rw (missing-for-lss (i .size), memory-there (i .b) _ refl (neither-right (isAbsent (i .a)) _ (sym (at-lss i) ∙ s)))
-plan-lacking arms.Nop i s = lacking-when i (isAbsent (i .b)) (generally i) none (generalRefused false false i) (lacking-generally i) refl ∙ simp or-false
+plan-lacking arms.Nop i s = lacking-when i (isAbsent (i .b)) (generalPlan i) none (generalRefused false false i) (lacking-general-plan i) refl ∙ simp or-false
 plan-lacking arms.Monitor i s = refl
 plan-lacking arms.Mwait i s = refl
 plan-lacking arms.Invlpgb i s = refl
@@ -193,8 +193,8 @@ plan-lacking arms.Scas i s = lacking-first (sizeLabel (i .size)) Own false 0 i �
 plan-lacking arms.Lods i s = lacking-first (sizeLabel (i .size)) Hidden false 1 i ∙ simp or-false (rw (missing-by-size (i .size), memory-there (i .b) _ (at-lods i) s))
 plan-lacking arms.Psmash i s = refl
 plan-lacking arms.Pvalidate i s = refl
-plan-lacking arms.Incssp i s = lacking-generally i ∙ simp or-false
-plan-lacking arms.Wrss i s = lacking-generally i ∙ simp or-false
+plan-lacking arms.Incssp i s = lacking-general-plan i ∙ simp or-false
+plan-lacking arms.Wrss i s = lacking-general-plan i ∙ simp or-false
 plan-lacking arms.Pblendvb i s = lacking-second (sizeLabel (i .size)) Own false 1 i (named xmm0) refl ∙ simp or-false (rw (missing-by-size (i .size)))
 plan-lacking arms.Lea i s = refl
 plan-lacking arms.Pushf i s = refl

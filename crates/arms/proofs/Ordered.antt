@@ -34,7 +34,7 @@ use Rattle.names.specs.declared.Arm.{Arm}
 use Rattle.names.specs.declared.Arm.the-variants as arms
 use Rattle.arms.specs.Tests.{isBranch, isXbegin, lslSource}
 use Rattle.arms.specs.Labels.{sizeLabel, lssLabel, tbyteLabel}
-use Rattle.arms.specs.Plans.{LabelRule, plain, labelled, st, named, none, one, two, three, spread, general, never, always, byRegisters, generally, movsLabel, fadd, planOf}
+use Rattle.arms.specs.Plans.{LabelRule, plain, labelled, st, named, none, one, two, three, spread, general, never, always, byRegisters, generalPlan, movsLabel, fadd, planOf}
 use Rattle.arms.specs.Shape.{shapeRefused}
 use Rattle.arms.proofs.ByArm.{first-there, both-there, at-lsl, at-lss, at-invlpgb, at-fadd}
 
@@ -108,12 +108,12 @@ module _ (mode : Mode) (i : Instruction) where
     unfolding general
     ordered-general rule = ordered-spread _ _ Own
 
-    ordered-generally : Ordered (generally i)
-    ordered-generally = ordered-general (byRegisters i false false)
+    ordered-general-plan : Ordered (generalPlan i)
+    ordered-general-plan = ordered-general (byRegisters i false false)
 
     -- an arm that leaves some records to the general path
-    ordered-else : (p : Bool) (x : Plan) → Ordered x → Ordered (cond p x (generally i))
-    ordered-else p x k = ordered-either p x (generally i) k ordered-generally
+    ordered-else : (p : Bool) (x : Plan) → Ordered x → Ordered (cond p x (generalPlan i))
+    ordered-else p x k = ordered-either p x (generalPlan i) k ordered-general-plan
 
 pub from-the-left :
     (mode : Mode) (arm : Arm) (i : Instruction) →
@@ -121,14 +121,14 @@ pub from-the-left :
     shapeRefused arm i ≡ false →
     fromTheLeft (itemsAt mode i (planOf arm i)) ≡ true
 unfolding planOf itemsAt itemAt
-from-the-left mode arms.General i e s = ordered-generally mode i e
+from-the-left mode arms.General i e s = ordered-general-plan mode i e
 from-the-left mode arms.Qword i e s = ordered-general mode i e never
 from-the-left mode arms.Mmword i e s = ordered-general mode i e always
 from-the-left mode arms.Jmpf i e s = ordered-general mode i e (byRegisters i true false)
 from-the-left mode arms.Callf i e s = ordered-general mode i e (byRegisters i true false)
 from-the-left mode arms.Lds i e s = ordered-general mode i e (byRegisters i false true)
 from-the-left mode arms.Movs i e s = ordered-spread mode i e (movsLabel i) (movsLabel i) UnlessDs
-from-the-left mode arms.Cmps i e s = ordered-generally mode i e
+from-the-left mode arms.Cmps i e s = ordered-general-plan mode i e
 from-the-left mode arms.Branch i e s = ordered-else mode i e (isBranch (i .a)) (one place.Branch) (ordered-one mode i place.Branch)
 from-the-left mode arms.Xbegin i e s = ordered-else mode i e (isXbegin (i .a)) (one place.Branch) (ordered-one mode i place.Branch)
 from-the-left mode arms.Feni i e s = refl
@@ -143,7 +143,7 @@ from-the-left mode arms.Prefetch i e s = ordered-one mode i (plain 0)
 from-the-left mode arms.Sgdt i e s = ordered-one mode i (labelled Fword Hidden 0)
 from-the-left mode arms.Lss i e s =
     ordered-two mode i (plain 0) (labelled (lssLabel (i .size)) Hidden 1) (operand-shows mode i 0 0 Hidden false (neither-left (isAbsent (i .a)) _ (sym (at-lss i) ∙ s)))
-from-the-left mode arms.Nop i e s = ordered-either mode i (isAbsent (i .b)) (generally i) none (ordered-generally mode i e) refl
+from-the-left mode arms.Nop i e s = ordered-either mode i (isAbsent (i .b)) (generalPlan i) none (ordered-general-plan mode i e) refl
 from-the-left mode arms.Monitor i e s = refl
 from-the-left mode arms.Mwait i e s = refl
 from-the-left mode arms.Invlpgb i e s = ordered-two mode i (plain 0) (plain 2) (operand-shows mode i 0 0 Hidden false (neither-left (isAbsent (i .a)) _ (sym (at-invlpgb i) ∙ s)))
@@ -152,8 +152,8 @@ from-the-left mode arms.Scas i e s = ordered-one mode i (labelled (sizeLabel (i 
 from-the-left mode arms.Lods i e s = ordered-one mode i (labelled (sizeLabel (i .size)) Hidden 1)
 from-the-left mode arms.Psmash i e s = refl
 from-the-left mode arms.Pvalidate i e s = refl
-from-the-left mode arms.Incssp i e s = ordered-generally mode i e
-from-the-left mode arms.Wrss i e s = ordered-generally mode i e
+from-the-left mode arms.Incssp i e s = ordered-general-plan mode i e
+from-the-left mode arms.Wrss i e s = ordered-general-plan mode i e
 from-the-left mode arms.Pblendvb i e s =
     let there = sym (both-there i .0) ∙ s in
     ordered-three mode i (plain 0) (labelled (sizeLabel (i .size)) Own 1) (named xmm0) (operand-shows mode i 0 0 Hidden false (neither-left (isAbsent (i .a)) (isAbsent (i .b)) there))

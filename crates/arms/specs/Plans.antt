@@ -125,8 +125,8 @@ abbrev pub byRegisters : Instruction → (first later : Bool) → LabelRule
 byRegisters i first later = record { mmword = hasVector i; first = first; later = later }
 
 -- the general path of an opcode that it does not name
-abbrev pub generally : Instruction → Plan
-generally i = general (byRegisters i false false) (i .size)
+abbrev pub generalPlan : Instruction → Plan
+generalPlan i = general (byRegisters i false false) (i .size)
 
 -- MOVS: the label of the general path; ds is shown in operand 0 alone
 abbrev pub movsLabel : Instruction → Label
@@ -142,27 +142,27 @@ fadd size a b =
 
 unfoldable pub planOf : Arm → Instruction → Plan
 -- the general path and what it does for single opcodes
-planOf General i = generally i
+planOf General i = generalPlan i
 planOf Qword i = general never (i .size)
 planOf Mmword i = general always (i .size)
 planOf Jmpf i = general (byRegisters i true false) (i .size)
 planOf Callf i = general (byRegisters i true false) (i .size)
 planOf Lds i = general (byRegisters i false true) (i .size)
 planOf Movs i = spread (movsLabel i) (movsLabel i) UnlessDs
-planOf Cmps i = generally i
-planOf Branch i = cond (isBranch (i .a)) (one place.Branch) (generally i)
-planOf Xbegin i = cond (isXbegin (i .a)) (one place.Branch) (generally i)
+planOf Cmps i = generalPlan i
+planOf Branch i = cond (isBranch (i .a)) (one place.Branch) (generalPlan i)
+planOf Xbegin i = cond (isXbegin (i .a)) (one place.Branch) (generalPlan i)
 -- a name alone
 planOf Feni i = none
 planOf Fdisi i = none
 planOf Fsetpm i = none
 -- the arms of the match on the opcode
 planOf Hreset i = two (plain 0) (named eax)
-planOf Lsl i = cond (isRegister (i .a) && isRegister (i .b)) (two (plain 0) (named (lslSource (i .a) (i .b)))) (generally i)
+planOf Lsl i = cond (isRegister (i .a) && isRegister (i .b)) (two (plain 0) (named (lslSource (i .a) (i .b)))) (generalPlan i)
 planOf Prefetch i = one (plain 0)
 planOf Sgdt i = one (labelled Fword Hidden 0)
 planOf Lss i = two (plain 0) (labelled (lssLabel (i .size)) Hidden 1)
-planOf Nop i = cond (isAbsent (i .b)) (generally i) none
+planOf Nop i = cond (isAbsent (i .b)) (generalPlan i) none
 planOf Monitor i = three (named eax) (named ecx) (named edx)
 planOf Mwait i = two (named eax) (named ecx)
 planOf Invlpgb i = two (plain 0) (plain 2)
@@ -171,12 +171,12 @@ planOf Scas i = one (labelled (sizeLabel (i .size)) Own 0)
 planOf Lods i = one (labelled (sizeLabel (i .size)) Hidden 1)
 planOf Psmash i = one (named eax)
 planOf Pvalidate i = three (named eax) (named ecx) (named edx)
-planOf Incssp i = generally i
-planOf Wrss i = generally i
+planOf Incssp i = generalPlan i
+planOf Wrss i = generalPlan i
 planOf Pblendvb i = three (plain 0) (labelled (sizeLabel (i .size)) Own 1) (named xmm0)
 planOf Lea i = two (plain 0) (plain 1)
 planOf Pushf i = none
-planOf Aam i = cond (eqb (i .imm) 10) none (generally i)
+planOf Aam i = cond (eqb (i .imm) 10) none (generalPlan i)
 planOf Fcom i = one (labelled (sizeLabel (i .size)) Own 1)
 planOf Fadd i = fadd (i .size) (i .a) (i .b)
 planOf Fbld i = one (place.Operand 1 (labelNumber (tbyteLabel (i .size))) Own true)

@@ -68,8 +68,8 @@ module _ (w : ℕ) (halves : 2 ^ w ≡ 2 ^ (w - 1) + 2 ^ (w - 1)) (some : 0 < 2 
       ]
 
   module _ (n l : ℕ) (once : l < 2 ^ w) where
-    kept : (e f : ℕ) → signed w n ≡ subℕ (n % 2 ^ w) e → signed w (n + l) ≡ subℕ ((n + l) % 2 ^ w) f → (n + l) % 2 ^ w + e ≡ n % 2 ^ w + l + f → signed w (n + l) ≡ signed w n +ℤ pos l
-    kept e f before after same =
+    sum-whole : (e f : ℕ) → signed w n ≡ subℕ (n % 2 ^ w) e → signed w (n + l) ≡ subℕ ((n + l) % 2 ^ w) f → (n + l) % 2 ^ w + e ≡ n % 2 ^ w + l + f → signed w (n + l) ≡ signed w n +ℤ pos l
+    sum-whole e f before after same =
         after ∙ same-difference _ f _ e same ∙ sym (difference-plus _ e l) ∙ ap (λ (z : ℤ). z +ℤ pos l) (sym before)
 
     less-once : (e f : ℕ) → signed w n ≡ subℕ (n % 2 ^ w) e → signed w (n + l) ≡ subℕ ((n + l) % 2 ^ w) f → (n + l) % 2 ^ w + (e + 2 ^ w) ≡ n % 2 ^ w + l + f → signed w (n + l) ≡ signed w n +ℤ pos l -ℤ pos (2 ^ w)
@@ -89,7 +89,7 @@ module _ (w : ℕ) (halves : 2 ^ w ≡ 2 ^ (w - 1) + 2 ^ (w - 1)) (some : 0 < 2 
               elim (decLt (n % 2 ^ w + l) (2 ^ w)) [
                 | yes b ↦
                     elim (decLt ((n + l) % 2 ^ w) (2 ^ (w - 1))) [
-                      | yes c ↦ inl (kept 0 0 (low n a) (low (n + l) c) (omega (arith, under b)))
+                      | yes c ↦ inl (sum-whole 0 0 (low n a) (low (n + l) c) (omega (arith, under b)))
                       | no c ↦ inr (less-once 0 (2 ^ w) (low n a) (high (n + l) (omega arith)) (omega (arith, under b)))
                     ]
                 | no b ↦
@@ -100,11 +100,11 @@ module _ (w : ℕ) (halves : 2 ^ w ≡ 2 ^ (w - 1) + 2 ^ (w - 1)) (some : 0 < 2 
               elim (decLt (n % 2 ^ w + l) (2 ^ w)) [
                 | yes b ↦
                     let on = under b in
-                    inl (kept (2 ^ w) (2 ^ w) (high n (omega arith)) (high (n + l) (omega arith)) (omega arith))
+                    inl (sum-whole (2 ^ w) (2 ^ w) (high n (omega arith)) (high (n + l) (omega arith)) (omega arith))
                 | no b ↦
                     let back = over (omega arith) in
                     elim (decLt ((n + l) % 2 ^ w) (2 ^ (w - 1))) [
-                      | yes c ↦ inl (kept (2 ^ w) 0 (high n (omega arith)) (low (n + l) c) (omega arith))
+                      | yes c ↦ inl (sum-whole (2 ^ w) 0 (high n (omega arith)) (low (n + l) c) (omega arith))
                       | no c ↦ inr (less-once (2 ^ w) (2 ^ w) (high n (omega arith)) (high (n + l) (omega arith)) (omega arith))
                     ]
               ]

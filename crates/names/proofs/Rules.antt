@@ -53,18 +53,18 @@ module _ (n : ℕ) (words : List (List ℕ)) (keep : T (namesRule n words)) wher
       (both-left (ascend (starts 0 words) && every (nameOf n) words) (distinct words) keep)) k h
 
   -- a name is there, has allowed letters alone, and is no longer than n
-  pub name-kept : (k : ℕ) → k < length words → T (nameOf n (getD words k []))
-  name-kept k h = every-at (nameOf n) [] words names-tested k h
+  pub name-passes : (k : ℕ) → k < length words → T (nameOf n (getD words k []))
+  name-passes k h = every-at (nameOf n) [] words names-tested k h
 
   pub name-some : (k : ℕ) → k < length words → T (not (empty (getD words k [])))
   name-some k h =
       let w = getD words k [] in
-      both-left (not (empty w)) (every letter w) (both-left (not (empty w) && every letter w) (leb (length w) n) (name-kept k h))
+      both-left (not (empty w)) (every letter w) (both-left (not (empty w) && every letter w) (leb (length w) n) (name-passes k h))
 
   pub name-letters : (k : ℕ) → k < length words → T (every letter (getD words k []))
   name-letters k h =
       let w = getD words k [] in
-      both-right (not (empty w)) (every letter w) (both-left (not (empty w) && every letter w) (leb (length w) n) (name-kept k h))
+      both-right (not (empty w)) (every letter w) (both-left (not (empty w) && every letter w) (leb (length w) n) (name-passes k h))
 
   -- the names at two places differ
   pub name-alone : (j k : ℕ) → j < k → k < length words → getD words j [] ≡ getD words k [] → ⊥

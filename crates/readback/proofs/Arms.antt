@@ -56,11 +56,11 @@ use Rattle.places.specs.Places.{itemsAt}
 use Rattle.places.specs.declared.Place.the-variants as place
 use Rattle.places.specs.declared.Plan.{Plan}
 use Rattle.arms.specs.Tests.{isBranch, isXbegin, lslSource}
-use Rattle.arms.specs.Plans.{plain, st, named, none, one, two, spread, general, generally, planOf}
+use Rattle.arms.specs.Plans.{plain, st, named, none, one, two, spread, general, generalPlan, planOf}
 use Rattle.arms.specs.Shape.{shapeRefused}
 use Rattle.arms.proofs.ByArm.{at-lsl}
 use Rattle.readback.proofs.Sound.{SoundItem}
-use Rattle.readback.proofs.Kept.{placeSound, sound-place}
+use Rattle.readback.proofs.SoundPlaces.{placeSound, sound-place}
 
 -- ---- Plans
 
@@ -92,20 +92,20 @@ plan-sound Callf i s = refl
 plan-sound Lds i s = refl
 plan-sound Movs i s = refl
 plan-sound Cmps i s = refl
-plan-sound Branch i s = either-plan Branch i (isBranch (i .a)) (one place.Branch) (generally i) (λ e. rw (or-false (isBranch (i .a)), e)) (λ e. refl)
-plan-sound Xbegin i s = either-plan Xbegin i (isXbegin (i .a)) (one place.Branch) (generally i) (λ e. rw e) (λ e. refl)
+plan-sound Branch i s = either-plan Branch i (isBranch (i .a)) (one place.Branch) (generalPlan i) (λ e. rw (or-false (isBranch (i .a)), e)) (λ e. refl)
+plan-sound Xbegin i s = either-plan Xbegin i (isXbegin (i .a)) (one place.Branch) (generalPlan i) (λ e. rw e) (λ e. refl)
 plan-sound Feni i s = refl
 plan-sound Fdisi i s = refl
 plan-sound Fsetpm i s = refl
 plan-sound Hreset i s = refl
 plan-sound Lsl i s =
-    either-plan Lsl i (isRegister (i .a) && isRegister (i .b)) (two (plain 0) (named (lslSource (i .a) (i .b)))) (generally i)
+    either-plan Lsl i (isRegister (i .a) && isRegister (i .b)) (two (plain 0) (named (lslSource (i .a) (i .b)))) (generalPlan i)
     (λ e. rw (source-there (isRegister (i .a)) (isRegister (i .b)) (isRegisterByte (lslSource (i .a) (i .b))) (sym (at-lsl i) ∙ s) e))
     (λ e. refl)
 plan-sound Prefetch i s = refl
 plan-sound Sgdt i s = refl
 plan-sound Lss i s = refl
-plan-sound Nop i s = either-plan Nop i (isAbsent (i .b)) (generally i) none (λ e. refl) (λ e. refl)
+plan-sound Nop i s = either-plan Nop i (isAbsent (i .b)) (generalPlan i) none (λ e. refl) (λ e. refl)
 plan-sound Monitor i s = refl
 plan-sound Mwait i s = refl
 plan-sound Invlpgb i s = refl
@@ -119,7 +119,7 @@ plan-sound Wrss i s = refl
 plan-sound Pblendvb i s = refl
 plan-sound Lea i s = refl
 plan-sound Pushf i s = refl
-plan-sound Aam i s = either-plan Aam i (eqb (i .imm) 10) none (generally i) (λ e. refl) (λ e. refl)
+plan-sound Aam i s = either-plan Aam i (eqb (i .imm) 10) none (generalPlan i) (λ e. refl) (λ e. refl)
 plan-sound Fcom i s = refl
 plan-sound Fadd i s =
     either-plan Fadd i (isMemory (i .b)) _ _ (λ e. refl)

@@ -32,9 +32,9 @@ use Rattle.records.specs.declared.Asked.{Asked}
 use Rattle.masm.specs.Operands.{Width, branch}
 use Rattle.readback.specs.Meaning.{widthOf, meaning}
 use Rattle.readback.specs.Printed.{Printed}
-use Rattle.readback.specs.Targets.{BranchRecord, short, long, distanceOf, recordTarget, beforeDollar, BranchesTo, mode0Sum, FitsByte, KeptInMode0}
+use Rattle.readback.specs.Targets.{BranchRecord, short, long, distanceOf, recordTarget, beforeDollar, BranchesTo, mode0Sum, FitsByte, FitsMode0}
 use Rattle.readback.proofs.Modulo.{modulo-plus}
-use Rattle.readback.proofs.Sums.{by-sign, modulo-wide, kept-if-fits, fits-if-kept, Short, sum-within, after-start, without-start, wide-sum}
+use Rattle.readback.proofs.Sums.{by-sign, modulo-wide, same-if-fits, fits-if-same, Short, sum-within, after-start, without-start, wide-sum}
 use Rattle.readback.proofs.Readback.{well, reads-back}
 
 -- ---- What the line of a branch record shows
@@ -176,12 +176,12 @@ module _ (i : Instruction) where
     short-fits : FitsByte (distanceOf i +ℤ pos (i .length)) → modulo (pos start +ℤ sumOf Crate i) ≡ recordTarget start i
     short-fits f =
         rw (sum-short i k)
-        (after-start start (signed 8 (bits i)) (signed 32 (bits i)) (kept-if-fits (bits i) (subst FitsByte whole-sum f)) ∙ sym whole-target)
+        (after-start start (signed 8 (bits i)) (signed 32 (bits i)) (same-if-fits (bits i) (subst FitsByte whole-sum f)) ∙ sym whole-target)
 
     fits-short : modulo (pos start +ℤ sumOf Crate i) ≡ recordTarget start i → FitsByte (distanceOf i +ℤ pos (i .length))
     fits-short e =
         subst FitsByte (sym whole-sum)
-        (fits-if-kept (bits i) (without-start start (signed 8 (bits i)) (signed 32 (bits i)) (rw (sum-short i k) at (e ∙ whole-target))))
+        (fits-if-same (bits i) (without-start start (signed 8 (bits i)) (signed 32 (bits i)) (rw (sum-short i k) at (e ∙ whole-target))))
 
 -- ---- The theorems
 
@@ -203,22 +203,22 @@ module _ {asked : Asked} {body : List ℕ} (p : Printed asked body) where
     mode-0-shown = goes p r start (rw (crate-asked m) (ap (λ (z : ℤ). modulo (pos start +ℤ z)) (sum-in-mode-0 (instructionOf body) r)))
 
     -- That is the target exactly where the distance is 32 bits wide, or its sum with the length is from -128 to 127.
-    kept : BranchRecord (instructionOf body) → KeptInMode0 (instructionOf body)
+    goes-if-fits : BranchRecord (instructionOf body) → FitsMode0 (instructionOf body)
         → BranchesTo start (recordText asked body) (beforeDollar (instructionOf body)) (recordTarget start (instructionOf body))
-    kept (short h k) (inl e) = absurd (omega arith)
-    kept (short h k) (inr f) = goes p r start (rw (crate-asked m) (short-fits (instructionOf body) (well p) k start f))
-    kept (long h k) c = goes p r start (rw (crate-asked m) (long-target (instructionOf body) Crate start k))
+    goes-if-fits (short h k) (inl e) = absurd (omega arith)
+    goes-if-fits (short h k) (inr f) = goes p r start (rw (crate-asked m) (short-fits (instructionOf body) (well p) k start f))
+    goes-if-fits (long h k) c = goes p r start (rw (crate-asked m) (long-target (instructionOf body) Crate start k))
 
-    only-kept : {width : Option Width} → BranchRecord (instructionOf body)
-        → BranchesTo start (recordText asked body) width (recordTarget start (instructionOf body)) → KeptInMode0 (instructionOf body)
-    only-kept (short h k) b = inr (fits-short (instructionOf body) (well p) k start (rw (crate-asked m) at (goes-only p r start b)))
-    only-kept (long h k) b = inl k
+    fits-if-goes : {width : Option Width} → BranchRecord (instructionOf body)
+        → BranchesTo start (recordText asked body) width (recordTarget start (instructionOf body)) → FitsMode0 (instructionOf body)
+    fits-if-goes (short h k) b = inr (fits-short (instructionOf body) (well p) k start (rw (crate-asked m) at (goes-only p r start b)))
+    fits-if-goes (long h k) b = inl k
 
     -- whatever stands before `$`
     pub mode-0-only : {width : Option Width} → BranchesTo start (recordText asked body) width (recordTarget start (instructionOf body))
-        → KeptInMode0 (instructionOf body)
-    mode-0-only b = only-kept r b
+        → FitsMode0 (instructionOf body)
+    mode-0-only b = fits-if-goes r b
 
     pub mode-0-branch : BranchesTo start (recordText asked body) (beforeDollar (instructionOf body)) (recordTarget start (instructionOf body))
-        ↔ KeptInMode0 (instructionOf body)
-    mode-0-branch = (mode-0-only, kept r)
+        ↔ FitsMode0 (instructionOf body)
+    mode-0-branch = (mode-0-only, goes-if-fits r)

@@ -39,15 +39,15 @@ abbrev pub shortJump : List ℕ
 shortJump = jmp 3 2 (0 ∷ 0 ∷ 0 ∷ 126 ∷ [])
 
 -- a list of bytes
-bytes-kept : (xs : List ℕ) → T (all (λ b. ltb b (2 ^ 8)) xs) → Bytes xs
-bytes-kept [] h at = lit< tt
-bytes-kept (x ∷ xs) h zero = let (a, b) = both (ltb x (2 ^ 8)) (all (λ b. ltb b (2 ^ 8)) xs) h in ltb-true x (2 ^ 8) (is-true (ltb x (2 ^ 8)) a)
-bytes-kept (x ∷ xs) h (suc at) = let (a, b) = both (ltb x (2 ^ 8)) (all (λ b. ltb b (2 ^ 8)) xs) h in bytes-kept xs b at
+bytes-tested : (xs : List ℕ) → T (all (λ b. ltb b (2 ^ 8)) xs) → Bytes xs
+bytes-tested [] h at = lit< tt
+bytes-tested (x ∷ xs) h zero = let (a, b) = both (ltb x (2 ^ 8)) (all (λ b. ltb b (2 ^ 8)) xs) h in ltb-true x (2 ^ 8) (is-true (ltb x (2 ^ 8)) a)
+bytes-tested (x ∷ xs) h (suc at) = let (a, b) = both (ltb x (2 ^ 8)) (all (λ b. ltb b (2 ^ 8)) xs) h in bytes-tested xs b at
 
 -- the body is printed in mode 0
 pub jump-printed : Printed (asking 0) shortJump
 unfolding refusals lengthRefused fieldRefused operandRefused segmentKept firstKept secondKept scaleKept instructionOf operandAt operandOf immediate shapeRefused sizeRefused armOf arms opcodes
-jump-printed = record { bytes = bytes-kept shortJump tt; accepted = refl }
+jump-printed = record { bytes = bytes-tested shortJump tt; accepted = refl }
 
 pub jump-text : recordText (asking 0) shortJump ≡ bytes "jmp $-80h"
 unfolding recordText lineAt instructionOf operandAt operandOf immediate armOf arms opcodes planOf itemsAt itemAt branchShown branchSum signed headOf lineText headText prefixesText repsText nameText mnemonic mnemonics itemsText partedText itemText labelText labelWord labels segmentText shownText branchText numeral figure places placesFrom digits digit

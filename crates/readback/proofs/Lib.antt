@@ -6,7 +6,7 @@ pub mod Addresses
 pub mod Modulo
 pub mod Operands
 pub mod Lines
-pub mod Kept
+pub mod SoundPlaces
 pub mod Arms
 pub mod Sums
 pub mod Readback

@@ -47,16 +47,16 @@ module _ (n : ℕ) where
   fits-high : 2 ^ 31 ≤ n % 2 ^ 32 → FitsByte (signed 32 n) → FitsByte (negsuc (2 ^ 32 - suc (n % 2 ^ 32)))
   fits-high h f = subst FitsByte (signed-high 32 n (n % 2 ^ 32) refl h (mod-lt n {m = 2 ^ 32} (lit< tt))) f
 
-  pub kept-if-fits : FitsByte (signed 32 n) → modulo (signed 8 n) ≡ modulo (signed 32 n)
-  kept-if-fits f =
+  pub same-if-fits : FitsByte (signed 32 n) → modulo (signed 8 n) ≡ modulo (signed 32 n)
+  same-if-fits f =
       let bound = mod-lt n {m = 2 ^ 32} (lit< tt) in
       elim (decLt (n % 2 ^ 32) (2 ^ 31)) [
         | yes h ↦ let small = fits-low h f in modulo-low n (omega arith) ∙ omega arith ∙ sym (modulo-wide n)
         | no h ↦ let near = fits-high (omega arith) f in modulo-high n (omega arith) ∙ omega arith ∙ sym (modulo-wide n)
       ]
 
-  pub fits-if-kept : modulo (signed 8 n) ≡ modulo (signed 32 n) → FitsByte (signed 32 n)
-  fits-if-kept e =
+  pub fits-if-same : modulo (signed 8 n) ≡ modulo (signed 32 n) → FitsByte (signed 32 n)
+  fits-if-same e =
       let k = sym (modulo-wide n) ∙ sym e in
       let bound = mod-lt n {m = 2 ^ 32} (lit< tt) in
       elim (decLt (n % 2 ^ 8) (2 ^ 7)) [

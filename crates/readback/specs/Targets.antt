@@ -65,5 +65,5 @@ FitsByte (pos n) = n ≤ 127
 FitsByte (negsuc n) = suc n ≤ 128
 
 -- the branches that mode 0 prints as they are: the distance is 32 bits wide, or its sum with the length is from -128 to 127
-abbrev pub KeptInMode0 : Instruction → Type 0
-KeptInMode0 i = (immediateKind (i .a) ≡ i32) ⊎ FitsByte (distanceOf i +ℤ pos (i .length))
+abbrev pub FitsMode0 : Instruction → Type 0
+FitsMode0 i = (immediateKind (i .a) ≡ i32) ⊎ FitsByte (distanceOf i +ℤ pos (i .length))

@@ -9,7 +9,7 @@ use Rattle.names.specs.declared.Arm.the-variants.{Branch, Xbegin, Monitor, Pval
 use Rattle.bodies.specs.Decoding.{instructionOf}
 use Rattle.arms.specs.Plans.{named, one, three, planOf}
 use Rattle.names.proofs.ArmGroups.{at-group}
-use Rattle.arms.proofs.GeneralPath.{kept-plan, kept-branch, kept-lsl, kept-monitor, kept-name}
+use Rattle.arms.proofs.GeneralPath.{own-plan, own-branch, own-lsl, own-monitor, own-silent}
 use borrow.Author.Needs.{needs}
 use Rattle.arms.proofs.plans.own.Statement.{statement}
 use Rattle.arms.proofs.plans.own.Tie as tie
@@ -193,7 +193,7 @@ none-requires c κs = search needs
 
 returns : tie.Need-returns
 returns c = let i = instructionOf (now ((c .before .before .before .args) .body)) in
-    rw ((c .one) .ensures, kept-plan i (one place.Branch) (Branch ∷ Xbegin ∷ []) ((c .before .before .before .args) .arm) (kept-branch i) ((c .before .match) .keys1) ((c .before .before .before .pre) .1 .1))
+    rw ((c .one) .ensures, own-plan i (one place.Branch) (Branch ∷ Xbegin ∷ []) ((c .before .before .before .args) .arm) (own-branch i) ((c .before .match) .keys1) ((c .before .before .before .pre) .1 .1))
 
 returns-2 : tie.Need-returns-2
 unfolding planOf
@@ -202,7 +202,7 @@ returns-2 c = rw ((c .two) .ensures, (c .before .plain) .ensures, (c .before .be
 returns-3 : tie.Need-returns-3
 unfolding instructionOf
 returns-3 c = let a = (c .before .before .before .before .before .before .args) in
-    rw ((c .two2) .ensures, (c .before .lsl-source) .ensures, (c .before .before .plain2) .ensures, kept-lsl (instructionOf (now (a .body))) (a .arm) ((c .before .before .before .enum-told2) .given .1) ((c .before .before .before .before .before .before .pre) .1 .1))
+    rw ((c .two2) .ensures, (c .before .lsl-source) .ensures, (c .before .before .plain2) .ensures, own-lsl (instructionOf (now (a .body))) (a .arm) ((c .before .before .before .enum-told2) .given .1) ((c .before .before .before .before .before .before .pre) .1 .1))
 
 returns-4 : tie.Need-returns-4
 unfolding planOf
@@ -218,7 +218,7 @@ returns-6 c = rw ((c .two3) .ensures, (c .before .labelled2) .ensures, (c .befor
 
 returns-7 : tie.Need-returns-7
 returns-7 c = let i = instructionOf (now ((c .before .before .before .args) .body)) in
-    rw ((c .three) .ensures, at-group (λ (x : Arm). planOf x i) (three (named eax) (named ecx) (named edx)) (Monitor ∷ Pvalidate ∷ []) ((c .before .before .before .args) .arm) (kept-monitor i) ((c .before .match) .keys7))
+    rw ((c .three) .ensures, at-group (λ (x : Arm). planOf x i) (three (named eax) (named ecx) (named edx)) (Monitor ∷ Pvalidate ∷ []) ((c .before .before .before .args) .arm) (own-monitor i) ((c .before .match) .keys7))
 
 returns-8 : tie.Need-returns-8
 unfolding planOf
@@ -266,7 +266,7 @@ returns-18 c = rw ((c .one9) .ensures, (c .before .labelled7) .ensures, (c .befo
 
 returns-19 : tie.Need-returns-19
 returns-19 c = let i = instructionOf (now ((c .before .before .before .args) .body)) in
-    rw ((c .none) .ensures, kept-name i ((c .before .before .before .args) .arm) ((c .before .match) .keys19) ((c .before .before .before .pre) .1 .1))
+    rw ((c .none) .ensures, own-silent i ((c .before .before .before .args) .arm) ((c .before .match) .keys19) ((c .before .before .before .pre) .1 .1))
 
 pub own-spec : {M : Type 1} → statement M
 own-spec =
