@@ -1,5 +1,5 @@
 -- The laws that the proofs of this crate, and crates above, cite.
-pub mod Said
+pub mod Results
 pub mod Mmword
 pub mod ByArm
 pub mod GeneralPath

@@ -2,7 +2,7 @@
 -- Assumes nothing.
 use denote.Ref.{now}
 use Rattle.bodies.specs.Decoding.{instructionOf}
-use Rattle.arms.proofs.Said.{said}
+use Rattle.arms.proofs.Results.{results-equal}
 use Rattle.arms.proofs.Mmword.{general-at-8}
 use Rattle.arms.proofs.GeneralPath.{general-plan}
 use borrow.Author.Needs.{needs}
@@ -22,13 +22,13 @@ general-requires : tie.Need-general-requires
 general-requires c κs = search needs
 
 own-requires : tie.Need-own-requires
-own-requires c κs = ((c .before .before .before .before .pre), ((c .before .before .size) .ensures, said ((c .before .is-general) .ensures) ((c .if1) .left)))
+own-requires c κs = ((c .before .before .before .before .pre), ((c .before .before .size) .ensures, results-equal ((c .before .is-general) .ensures) ((c .if1) .left)))
 
 returns : tie.Need-returns
 unfolding instructionOf
 returns c = let a = (c .before .before .before .before .before .before .args) in
     let i = instructionOf (now (a .body)) in
-    rw ((c .general) .ensures, (c .before .is-mmword) .ensures, (c .before .before .before .before .size) .ensures, general-at-8, general-plan i (a .arm) (said ((c .before .before .before .is-general) .ensures) ((c .before .before .if1) .taken)))
+    rw ((c .general) .ensures, (c .before .is-mmword) .ensures, (c .before .before .before .before .size) .ensures, general-at-8, general-plan i (a .arm) (results-equal ((c .before .before .before .is-general) .ensures) ((c .before .before .if1) .taken)))
 
 returns-2 : tie.Need-returns-2
 returns-2 c = search needs

@@ -6,7 +6,7 @@ use borrow.Author.Tests.{lt-ltb, le-ltb}
 use Rattle.names.specs.Opcodes.{armOf}
 use Rattle.bodies.specs.Decoding.{instructionOf}
 use Rattle.bodies.proofs.Lengths.{whole}
-use Rattle.arms.proofs.Said.{said}
+use Rattle.arms.proofs.Results.{results-equal as said}
 use Rattle.records.proofs.Judging.{at-mode, at-length, at-field, at-shape, at-size, at-accepted, few-counted}
 use borrow.Author.Needs.{needs}
 use Rattle.records.proofs.judge.judge.Statement.{statement}

@@ -6,7 +6,7 @@ use denote.Ref.{now}
 use Rattle.text.specs.Choice.{when}
 use Rattle.text.proofs.Putting.{first, rest, and-then, put-none, room-as, put-as}
 use Rattle.answers.specs.Lines.{newline}
-use Rattle.arms.proofs.Said.{said}
+use Rattle.arms.proofs.Results.{results-equal as said}
 use Rattle.records.specs.Judged.{textOf}
 use Rattle.records.proofs.Judging.{judged-refused, judged-accepted, refusals-below, kept, plan-from-the-left}
 use Rattle.records.proofs.Texts.{alone-refused, listed-refused, accepted-text}

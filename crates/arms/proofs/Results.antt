@@ -3,5 +3,5 @@
 use mathlib.Core.Path.{_≡_, sym, _∙_}
 
 -- what a callee ensures of its result, and what a test found the result to be
-pub said : {A : Type 0} {r x b : A} → r ≡ x → r ≡ b → x ≡ b
-said ensures found = sym ensures ∙ found
+pub results-equal : {A : Type 0} {r x b : A} → r ≡ x → r ≡ b → x ≡ b
+results-equal ensures found = sym ensures ∙ found
