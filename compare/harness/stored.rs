@@ -10,6 +10,8 @@ use oracle::{line_into, listing_into, Record, Sink, Slot};
 use records::Random;
 use std::path::Path;
 
+mod rows;
+
 const SEED: u64 = 154;
 const RECORDS: usize = 6000;
 
@@ -27,20 +29,26 @@ fn main() {
         listing_into(&listing, mode, &mut text).expect("000 prints what document 01 accepts");
         let place = Path::new(folder).join(program);
         for (file, bytes) in [("stdin", &listing), ("stdout", &text.0)] {
-            let file = place.join(file);
-            if check {
-                let agrees = std::fs::read(&file).is_ok_and(|stored| stored == *bytes);
-                println!("{}  {}", if agrees { "same   " } else { "DIFFERS" }, file.display());
-                same &= agrees;
-            } else {
-                std::fs::create_dir_all(&place).expect("the folder can be made");
-                std::fs::write(&file, bytes).expect("the file can be written");
-                println!("{:>7} bytes  {}", bytes.len(), file.display());
-            }
+            same &= store(&place.join(file), bytes, check);
         }
         summary(&text.0, mode);
     }
+    same &= store(&Path::new(folder).join("printed").join("rows.txt"), rows::text().as_bytes(), check);
     std::process::exit(if same { 0 } else { 1 })
+}
+
+/// Writes a file, or says whether it is there as it would be written.
+fn store(file: &Path, bytes: &[u8], check: bool) -> bool {
+    if check {
+        let agrees = std::fs::read(file).is_ok_and(|stored| stored == bytes);
+        println!("{}  {}", if agrees { "same   " } else { "DIFFERS" }, file.display());
+        agrees
+    } else {
+        std::fs::create_dir_all(file.parent().expect("a file in a folder")).expect("the folder can be made");
+        std::fs::write(file, bytes).expect("the file can be written");
+        println!("{:>7} bytes  {}", bytes.len(), file.display());
+        true
+    }
 }
 
 fn listing() -> Vec<u8> {

@@ -54,7 +54,7 @@ prints text body mode e buf fits =
     rw (is, answer-append (refusals (asking mode) body) _ (refusals-numbered (asking mode) body) none, le-ltb (length buf) (length text) fits)
 
 -- two tables that are equal are so entry by entry
-each : {A B : Type 0} {P : A → Type 0} (f g : A → B) → ((x : A) → f x ≡ g x → P x) → (xs : List A) → map f xs ≡ map g xs → All P xs
+pub each : {A B : Type 0} {P : A → Type 0} (f g : A → B) → ((x : A) → f x ≡ g x → P x) → (xs : List A) → map f xs ≡ map g xs → All P xs
 each f g h [] e = tt
 each f g h (x ∷ xs) e = (h x cc, each f g h xs cc)
 

@@ -1,0 +1,74 @@
+-- What an entry point comes to before there is a buffer, and what that says of every buffer.
+-- Assumes nothing.
+use mathlib.Core.Path.{_≡_, sym, ap}
+use mathlib.Core.Bool.{Bool, true}
+use mathlib.Core.List.{List, []}
+use Prim.Native.Nat.{ℕ, _<_}
+use native.Mathlib.Omega.{arith}
+use borrow.Author.Tests.{le-ltb, lt-ltb, ltb-true, ne-eqb}
+use lib.Dec.{ltb}
+use lib.ListN as list
+use Rattle.text.specs.Words.{bytes}
+use Rattle.answers.specs.Refusals.{Refusal, Numbered, room, answerOf}
+use Rattle.answers.specs.Outcomes.{Outcome, outcomeOf, withRoom}
+use Rattle.answers.proofs.Firsts.{numbered-by, answer-append, answer-before}
+use Rattle.records.specs.declared.Asked.{Asked}
+use Rattle.records.specs.Records.{refusals, recordText, recordOutcome}
+use Rattle.records.proofs.Judging.{refusals-numbered}
+use Rattle.listings.specs.Lines.{listingText}
+use Rattle.listings.specs.Listings.{listingRefusals, listingOutcome}
+use Rattle.printed.specs.Rows.{Said, prints, answers, Printed, Answered, Says}
+
+-- the answer before there is a buffer, the text where one is said, and that an answer said is one of 1 to 5
+abbrev pub Found : Type 0
+Found = record { answer : ℕ; text : List ℕ; some : Bool; below : Bool }
+
+abbrev pub found : Said → List Refusal → List ℕ → Found
+found (prints said) rs text = record { answer = answerOf rs; text = text; some = true; below = true }
+found (answers n) rs text = record { answer = answerOf rs; text = []; some = ltb 0 n; below = ltb n room }
+
+abbrev pub wanted : Said → Found
+wanted (prints said) = record { answer = 0; text = bytes said; some = true; below = true }
+wanted (answers n) = record { answer = n; text = []; some = true; below = true }
+
+-- an entry point's outcome, by its refusals and its text
+abbrev pub by : List Refusal → List ℕ → List ℕ → Outcome
+by rs text buf = outcomeOf (answerOf (withRoom rs text buf)) text buf
+
+-- where nothing refuses, the text is printed
+printed : (rs : List Refusal) (text : List ℕ) → Numbered rs → answerOf rs ≡ 0 → Printed (by rs text) text
+unfolding outcomeOf
+printed rs text numbered none =
+    record {
+      with-room = λ buf fits. rw (answer-append rs _ numbered none, le-ltb (list.length buf) (list.length text) fits);
+      without = λ buf lacks. rw (answer-append rs _ numbered none, lt-ltb (list.length buf) (list.length text) lacks);
+    }
+
+-- what refuses is the answer, whatever the text
+answered : (rs : List Refusal) (text : List ℕ) (n : ℕ) → 0 < n → n < 6 → answerOf rs ≡ n → Answered (by rs text) n
+unfolding outcomeOf
+answered rs text n some below e buf =
+    rw (answer-before rs _ some e, ne-eqb n 0 (λ z. omega (arith, some, z)), ne-eqb n 6 (λ z. omega (arith, below, z)))
+
+-- what is found as it is said holds of every buffer
+pub says : (said : Said) (rs : List Refusal) (text : List ℕ) → Numbered rs → found said rs text ≡ wanted said → Says (by rs text) said
+says (prints said) rs text numbered e =
+    let is : text ≡ bytes said = ap (λ (f : Found). f .text) e in
+    rw (sym is) (printed rs text numbered (ap (λ (f : Found). f .answer) e))
+says (answers n) rs text numbered e =
+    answered rs text n (ltb-true 0 n (ap (λ (f : Found). f .some) e)) (ltb-true n 6 (ap (λ (f : Found). f .below) e))
+    (ap (λ (f : Found). f .answer) e)
+
+-- of a record
+pub record-says : (said : Said) (asked : Asked) (given : List ℕ) → found said (refusals asked given) (recordText asked given) ≡ wanted said → Says (recordOutcome asked given) said
+unfolding recordOutcome
+record-says said asked given e = says said (refusals asked given) (recordText asked given) (refusals-numbered asked given) e
+
+-- of a listing
+listing-numbered : (asked : Asked) (given : List ℕ) → Numbered (listingRefusals asked given)
+unfolding listingRefusals
+listing-numbered asked given = numbered-by (listingRefusals asked given) tt
+
+pub listing-says : (said : Said) (asked : Asked) (given : List ℕ) → found said (listingRefusals asked given) (listingText asked given) ≡ wanted said → Says (listingOutcome asked given) said
+unfolding listingOutcome
+listing-says said asked given e = says said (listingRefusals asked given) (listingText asked given) (listing-numbered asked given) e
