@@ -254,4 +254,12 @@ fn stored(count: u64, seed: u64) {
         println!("\nlines-{at} : List (String × Reading)\nlines-{at} =\n{}    []", part.concat());
         println!("\nread-{at} : Read lines-{at}\nunfolding read lines-{at}\nread-{at} = refl");
     }
+    // none may go missing in silence
+    let parts = entries.chunks(40).len();
+    let names = |before: &str| (0..parts).map(|at| format!("{before}lines-{at}")).collect::<Vec<_>>();
+    println!(
+        "\n-- a second hold: how many there are\nstored-lines : {} ≡ {count}\nunfolding {}\nstored-lines = refl",
+        names("length ").join(" + "),
+        names("").join(" ")
+    );
 }

@@ -3,7 +3,9 @@
 use mathlib.Core.Path.{_≡_, refl}
 use mathlib.Core.List.{List, [], _∷_, map}
 use mathlib.Core.Option.{none, some}
+use Prim.Native.Nat.{_+_}
 use Prim.Native.String.{String}
+use lib.ListN.{length}
 use Rattle.masm.specs.Tokens.{bytes}
 use Rattle.masm.specs.Operands.{Near, Byte, Word, Dword, Qword, Tbyte, Xmmword, timesIn, Operand, register, immediate, branch, address}
 use Rattle.masm.specs.Lines.{Prefix, Lock, Repe, Repne, Reading, shows, no-instruction, refused, read}
@@ -301,3 +303,8 @@ lines-5 =
 read-5 : Read lines-5
 unfolding read lines-5
 read-5 = refl
+
+-- a second hold: how many there are
+stored-lines : length lines-0 + length lines-1 + length lines-2 + length lines-3 + length lines-4 + length lines-5 ≡ 240
+unfolding lines-0 lines-1 lines-2 lines-3 lines-4 lines-5
+stored-lines = refl
