@@ -6,9 +6,6 @@ use borrow.Author.Needs.{needs}
 use Rattle.arms.proofs.labels.general_label.Statement.{statement}
 use Rattle.arms.proofs.labels.general_label.Tie as tie
 
-size-label-requires : tie.Need-size-label-requires
-size-label-requires c κs = search needs
-
 returns : tie.Need-returns
 unfolding generalLabel sizeLabel
 returns c = rw ((c .match) .keys1)
@@ -41,11 +38,4 @@ pub general-label-spec : {M : Type 1} → statement M
 general-label-spec =
     tie.close
     (tie.spec
-    size-label-requires
-    returns
-    returns-2
-    returns-3
-    returns-4
-    returns-5
-    returns-6
-    returns-7)
+    (search needs) returns returns-2 returns-3 returns-4 returns-5 returns-6 returns-7)

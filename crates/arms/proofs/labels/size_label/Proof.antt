@@ -38,6 +38,4 @@ unfolding sizeLabel
 returns-8 c = rw (ne-eqb _ _ ((c .match) .rest .0 .0 .0 .0 .0 .0 .1), ne-eqb _ _ ((c .match) .rest .0 .0 .0 .0 .0 .1), ne-eqb _ _ ((c .match) .rest .0 .0 .0 .0 .1), ne-eqb _ _ ((c .match) .rest .0 .0 .0 .1), ne-eqb _ _ ((c .match) .rest .0 .0 .1), ne-eqb _ _ ((c .match) .rest .0 .1), ne-eqb _ _ ((c .match) .rest .1))
 
 pub size-label-spec : {M : Type 1} → statement M
-size-label-spec =
-    tie.close
-    (tie.spec returns returns-2 returns-3 returns-4 returns-5 returns-6 returns-7 returns-8)
+size-label-spec = tie.close (tie.spec returns returns-2 returns-3 returns-4 returns-5 returns-6 returns-7 returns-8)

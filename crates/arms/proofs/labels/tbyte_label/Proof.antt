@@ -6,9 +6,6 @@ use borrow.Author.Needs.{needs}
 use Rattle.arms.proofs.labels.tbyte_label.Statement.{statement}
 use Rattle.arms.proofs.labels.tbyte_label.Tie as tie
 
-size-label-requires : tie.Need-size-label-requires
-size-label-requires c κs = search needs
-
 returns : tie.Need-returns
 unfolding tbyteLabel
 returns c = rw ((c .match) .keys1)
@@ -18,4 +15,4 @@ unfolding tbyteLabel
 returns-2 c = rw ((c .size-label) .ensures, ne-eqb _ _ ((c .before .match) .rest .1))
 
 pub tbyte-label-spec : {M : Type 1} → statement M
-tbyte-label-spec = tie.close (tie.spec size-label-requires returns returns-2)
+tbyte-label-spec = tie.close (tie.spec (search needs) returns returns-2)

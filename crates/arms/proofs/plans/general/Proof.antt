@@ -7,42 +7,6 @@ use borrow.Author.Needs.{needs}
 use Rattle.arms.proofs.plans.general.Statement.{statement}
 use Rattle.arms.proofs.plans.general.Tie as tie
 
-general-label-requires : tie.Need-general-label-requires
-general-label-requires c κs = search needs
-
-general-label-requires-2 : tie.Need-general-label-requires-2
-general-label-requires-2 c κs = search needs
-
-spread-requires : tie.Need-spread-requires
-spread-requires c κs = search needs
-
-enum-told : tie.Need-enum-told
-enum-told c = search needs
-
-general-label-requires-3 : tie.Need-general-label-requires-3
-general-label-requires-3 c κs = search needs
-
-general-label-requires-4 : tie.Need-general-label-requires-4
-general-label-requires-4 c κs = search needs
-
-spread-requires-2 : tie.Need-spread-requires-2
-spread-requires-2 c κs = search needs
-
-enum-told-2 : tie.Need-enum-told-2
-enum-told-2 c = search needs
-
-general-label-requires-5 : tie.Need-general-label-requires-5
-general-label-requires-5 c κs = search needs
-
-spread-requires-3 : tie.Need-spread-requires-3
-spread-requires-3 c κs = search needs
-
-general-label-requires-6 : tie.Need-general-label-requires-6
-general-label-requires-6 c κs = search needs
-
-spread-requires-4 : tie.Need-spread-requires-4
-spread-requires-4 c κs = search needs
-
 returns : tie.Need-returns
 unfolding spread
 returns c = rw ((c .spread) .ensures, (c .before .before .general-label) .ensures, (c .before .general-label2) .ensures, general-far ((c .before .before .before .before .args) .arm) ((c .before .before .before .before .args) .mmword) ((c .before .before .before .before .args) .size) ((c .before .before .before .match) .keys1))
@@ -63,19 +27,5 @@ pub general-spec : {M : Type 1} → statement M
 general-spec =
     tie.close
     (tie.spec
-    general-label-requires
-    general-label-requires-2
-    spread-requires
-    enum-told
-    general-label-requires-3
-    general-label-requires-4
-    spread-requires-2
-    enum-told-2
-    general-label-requires-5
-    spread-requires-3
-    general-label-requires-6
-    spread-requires-4
-    returns
-    returns-2
-    returns-3
-    returns-4)
+    (search needs) (search needs) (search needs) (search needs) (search needs) (search needs) (search needs) (search needs) (search needs)
+    (search needs) (search needs) (search needs) returns returns-2 returns-3 returns-4)

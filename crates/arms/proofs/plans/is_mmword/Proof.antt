@@ -11,15 +11,6 @@ use borrow.Author.Needs.{needs}
 use Rattle.arms.proofs.plans.is_mmword.Statement.{statement}
 use Rattle.arms.proofs.plans.is_mmword.Tie as tie
 
-enum-told : tie.Need-enum-told
-enum-told c = search needs
-
-enum-told-2 : tie.Need-enum-told-2
-enum-told-2 c = search needs
-
-has-vector-requires : tie.Need-has-vector-requires
-has-vector-requires c κs = search needs
-
 returns : tie.Need-returns
 returns c = rw ((c .enum-told) .given .1, eq-eqb _ _ ((c .before .before .if1) .taken))
 
@@ -34,6 +25,4 @@ returns-4 : tie.Need-returns-4
 returns-4 c = rw (ne-eqb _ _ ((c .if1) .left))
 
 pub is-mmword-spec : {M : Type 1} → statement M
-is-mmword-spec =
-    tie.close
-    (tie.spec enum-told enum-told-2 has-vector-requires returns returns-2 returns-3 returns-4)
+is-mmword-spec = tie.close (tie.spec (search needs) (search needs) (search needs) returns returns-2 returns-3 returns-4)

@@ -9,18 +9,6 @@ use borrow.Author.Needs.{needs}
 use Rattle.arms.proofs.plans.plan_of.Statement.{statement}
 use Rattle.arms.proofs.plans.plan_of.Tie as tie
 
-size-requires : tie.Need-size-requires
-size-requires c κs = search needs
-
-is-general-requires : tie.Need-is-general-requires
-is-general-requires c κs = search needs
-
-is-mmword-requires : tie.Need-is-mmword-requires
-is-mmword-requires c κs = search needs
-
-general-requires : tie.Need-general-requires
-general-requires c κs = search needs
-
 own-requires : tie.Need-own-requires
 own-requires c κs = ((c .before .before .before .before .pre), ((c .before .before .size) .ensures, results-equal ((c .before .is-general) .ensures) ((c .if1) .left)))
 
@@ -30,17 +18,8 @@ returns c = let a = (c .before .before .before .before .before .before .args) in
     let i = instructionOf (now (a .body)) in
     rw ((c .general) .ensures, (c .before .is-mmword) .ensures, (c .before .before .before .before .size) .ensures, general-at-8, general-plan i (a .arm) (results-equal ((c .before .before .before .is-general) .ensures) ((c .before .before .if1) .taken)))
 
-returns-2 : tie.Need-returns-2
-returns-2 c = search needs
-
 pub plan-of-spec : {M : Type 1} → statement M
 plan-of-spec =
     tie.close
     (tie.spec
-    size-requires
-    is-general-requires
-    is-mmword-requires
-    general-requires
-    own-requires
-    returns
-    returns-2)
+    (search needs) (search needs) (search needs) (search needs) own-requires returns (λ c. search needs))

@@ -4,27 +4,8 @@ use borrow.Author.Needs.{needs}
 use Rattle.arms.proofs.plans.spread.Statement.{statement}
 use Rattle.arms.proofs.plans.spread.Tie as tie
 
-labelled-requires : tie.Need-labelled-requires
-labelled-requires c κs = search needs
-
-labelled-requires-2 : tie.Need-labelled-requires-2
-labelled-requires-2 c κs = search needs
-
-labelled-requires-3 : tie.Need-labelled-requires-3
-labelled-requires-3 c κs = search needs
-
-labelled-requires-4 : tie.Need-labelled-requires-4
-labelled-requires-4 c κs = search needs
-
 returns : tie.Need-returns
 returns c = rw ((c .labelled4) .ensures, (c .before .labelled3) .ensures, (c .before .before .labelled2) .ensures, (c .before .before .before .labelled) .ensures)
 
 pub spread-spec : {M : Type 1} → statement M
-spread-spec =
-    tie.close
-    (tie.spec
-    labelled-requires
-    labelled-requires-2
-    labelled-requires-3
-    labelled-requires-4
-    returns)
+spread-spec = tie.close (tie.spec (search needs) (search needs) (search needs) (search needs) returns)

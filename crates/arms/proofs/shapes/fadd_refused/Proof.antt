@@ -4,19 +4,8 @@ use borrow.Author.Needs.{needs}
 use Rattle.arms.proofs.shapes.fadd_refused.Statement.{statement}
 use Rattle.arms.proofs.shapes.fadd_refused.Tie as tie
 
-is-memory-at-requires : tie.Need-is-memory-at-requires
-is-memory-at-requires c κs = search needs
-
-is-register-r-at-requires : tie.Need-is-register-r-at-requires
-is-register-r-at-requires c κs = search needs
-
-is-register-r-at-requires-2 : tie.Need-is-register-r-at-requires-2
-is-register-r-at-requires-2 c κs = search needs
-
 returns : tie.Need-returns
 returns c = rw ((c .before .before .is-memory-at) .ensures, (c .before .is-register-r-at) .ensures, (c .is-register-r-at2) .ensures)
 
 pub fadd-refused-spec : {M : Type 1} → statement M
-fadd-refused-spec =
-    tie.close
-    (tie.spec is-memory-at-requires is-register-r-at-requires is-register-r-at-requires-2 returns)
+fadd-refused-spec = tie.close (tie.spec (search needs) (search needs) (search needs) returns)

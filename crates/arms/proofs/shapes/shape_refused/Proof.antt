@@ -21,84 +21,6 @@ abbrev refusing : List Arm
 refusing =
     Hreset ∷ Lsl ∷ Prefetch ∷ Sgdt ∷ Lss ∷ Invlpgb ∷ Scas ∷ Lods ∷ Incssp ∷ Wrss ∷ Pblendvb ∷ Lea ∷ Fcom ∷ Fadd ∷ Fbld ∷ Fbstp ∷ []
 
-is-absent-at-requires : tie.Need-is-absent-at-requires
-is-absent-at-requires c κs = search needs
-
-enum-told : tie.Need-enum-told
-enum-told c = search needs
-
-lsl-refused-requires : tie.Need-lsl-refused-requires
-lsl-refused-requires c κs = search needs
-
-is-memory-at-requires : tie.Need-is-memory-at-requires
-is-memory-at-requires c κs = search needs
-
-enum-told-2 : tie.Need-enum-told-2
-enum-told-2 c = search needs
-
-is-absent-at-requires-2 : tie.Need-is-absent-at-requires-2
-is-absent-at-requires-2 c κs = search needs
-
-is-memory-at-requires-2 : tie.Need-is-memory-at-requires-2
-is-memory-at-requires-2 c κs = search needs
-
-enum-told-3 : tie.Need-enum-told-3
-enum-told-3 c = search needs
-
-is-absent-at-requires-3 : tie.Need-is-absent-at-requires-3
-is-absent-at-requires-3 c κs = search needs
-
-is-absent-at-requires-4 : tie.Need-is-absent-at-requires-4
-is-absent-at-requires-4 c κs = search needs
-
-enum-told-4 : tie.Need-enum-told-4
-enum-told-4 c = search needs
-
-is-memory-at-requires-3 : tie.Need-is-memory-at-requires-3
-is-memory-at-requires-3 c κs = search needs
-
-enum-told-5 : tie.Need-enum-told-5
-enum-told-5 c = search needs
-
-is-bank-0-at-requires : tie.Need-is-bank-0-at-requires
-is-bank-0-at-requires c κs = search needs
-
-enum-told-6 : tie.Need-enum-told-6
-enum-told-6 c = search needs
-
-is-bank-0-at-requires-2 : tie.Need-is-bank-0-at-requires-2
-is-bank-0-at-requires-2 c κs = search needs
-
-is-absent-at-requires-5 : tie.Need-is-absent-at-requires-5
-is-absent-at-requires-5 c κs = search needs
-
-is-absent-at-requires-6 : tie.Need-is-absent-at-requires-6
-is-absent-at-requires-6 c κs = search needs
-
-enum-told-7 : tie.Need-enum-told-7
-enum-told-7 c = search needs
-
-is-absent-at-requires-7 : tie.Need-is-absent-at-requires-7
-is-absent-at-requires-7 c κs = search needs
-
-enum-told-8 : tie.Need-enum-told-8
-enum-told-8 c = search needs
-
-is-absent-at-requires-8 : tie.Need-is-absent-at-requires-8
-is-absent-at-requires-8 c κs = search needs
-
-is-absent-at-requires-9 : tie.Need-is-absent-at-requires-9
-is-absent-at-requires-9 c κs = search needs
-
-fadd-refused-requires : tie.Need-fadd-refused-requires
-fadd-refused-requires c κs = search needs
-
-enum-told-9 : tie.Need-enum-told-9
-enum-told-9 c = search needs
-
-fbld-refused-requires : tie.Need-fbld-refused-requires
-fbld-refused-requires c κs = search needs
-
 returns : tie.Need-returns
 unfolding instructionOf
 returns c = let i = instructionOf (now ((c .before .before .before .args) .body)) in
@@ -158,42 +80,7 @@ pub shape-refused-spec : {M : Type 1} → statement M
 shape-refused-spec =
     tie.close
     (tie.spec
-    is-absent-at-requires
-    enum-told
-    lsl-refused-requires
-    is-memory-at-requires
-    enum-told-2
-    is-absent-at-requires-2
-    is-memory-at-requires-2
-    enum-told-3
-    is-absent-at-requires-3
-    is-absent-at-requires-4
-    enum-told-4
-    is-memory-at-requires-3
-    enum-told-5
-    is-bank-0-at-requires
-    enum-told-6
-    is-bank-0-at-requires-2
-    is-absent-at-requires-5
-    is-absent-at-requires-6
-    enum-told-7
-    is-absent-at-requires-7
-    enum-told-8
-    is-absent-at-requires-8
-    is-absent-at-requires-9
-    fadd-refused-requires
-    enum-told-9
-    fbld-refused-requires
-    returns
-    returns-2
-    returns-3
-    returns-4
-    returns-5
-    returns-6
-    returns-7
-    returns-8
-    returns-9
-    returns-10
-    returns-11
-    returns-12
-    returns-13)
+    (search needs) (search needs) (search needs) (search needs) (search needs) (search needs) (search needs) (search needs) (search needs)
+    (search needs) (search needs) (search needs) (search needs) (search needs) (search needs) (search needs) (search needs) (search needs)
+    (search needs) (search needs) (search needs) (search needs) (search needs) (search needs) (search needs) (search needs) returns
+    returns-2 returns-3 returns-4 returns-5 returns-6 returns-7 returns-8 returns-9 returns-10 returns-11 returns-12 returns-13)

@@ -5,28 +5,9 @@ use borrow.Author.Needs.{needs}
 use Rattle.arms.proofs.sizes.plan_lacks.Statement.{statement}
 use Rattle.arms.proofs.sizes.plan_lacks.Tie as tie
 
-place-lacks-requires : tie.Need-place-lacks-requires
-place-lacks-requires c κs = search needs
-
-place-lacks-requires-2 : tie.Need-place-lacks-requires-2
-place-lacks-requires-2 c κs = search needs
-
-place-lacks-requires-3 : tie.Need-place-lacks-requires-3
-place-lacks-requires-3 c κs = search needs
-
-place-lacks-requires-4 : tie.Need-place-lacks-requires-4
-place-lacks-requires-4 c κs = search needs
-
 returns : tie.Need-returns
 unfolding planLacks
 returns c = rw ((c .place-lacks4) .ensures, (c .before .place-lacks3) .ensures, (c .before .before .place-lacks2) .ensures, (c .before .before .before .place-lacks) .ensures)
 
 pub plan-lacks-spec : {M : Type 1} → statement M
-plan-lacks-spec =
-    tie.close
-    (tie.spec
-    place-lacks-requires
-    place-lacks-requires-2
-    place-lacks-requires-3
-    place-lacks-requires-4
-    returns)
+plan-lacks-spec = tie.close (tie.spec (search needs) (search needs) (search needs) (search needs) returns)

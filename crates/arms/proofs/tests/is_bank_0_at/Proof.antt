@@ -4,14 +4,8 @@ use borrow.Author.Needs.{needs}
 use Rattle.arms.proofs.tests.is_bank_0_at.Statement.{statement}
 use Rattle.arms.proofs.tests.is_bank_0_at.Tie as tie
 
-is-register-at-requires : tie.Need-is-register-at-requires
-is-register-at-requires c κs = search needs
-
-register-at-requires : tie.Need-register-at-requires
-register-at-requires c κs = search needs
-
 returns : tie.Need-returns
 returns c = rw ((c .register-at) .ensures, (c .before .is-register-at) .ensures)
 
 pub is-bank-0-at-spec : {M : Type 1} → statement M
-is-bank-0-at-spec = tie.close (tie.spec is-register-at-requires register-at-requires returns)
+is-bank-0-at-spec = tie.close (tie.spec (search needs) (search needs) returns)

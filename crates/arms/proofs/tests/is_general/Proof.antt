@@ -22,39 +22,6 @@ own = General ∷ Qword ∷ Mmword ∷ Jmpf ∷ Callf ∷ Lds ∷ Movs ∷ Cmps 
 abbrev leaving : List Arm
 leaving = Branch ∷ Xbegin ∷ Lsl ∷ Nop ∷ Aam ∷ []
 
-enum-told : tie.Need-enum-told
-enum-told c = search needs
-
-immediate-kind-at-requires : tie.Need-immediate-kind-at-requires
-immediate-kind-at-requires c κs = search needs
-
-enum-told-2 : tie.Need-enum-told-2
-enum-told-2 c = search needs
-
-immediate-kind-at-requires-2 : tie.Need-immediate-kind-at-requires-2
-immediate-kind-at-requires-2 c κs = search needs
-
-enum-told-3 : tie.Need-enum-told-3
-enum-told-3 c = search needs
-
-is-register-at-requires : tie.Need-is-register-at-requires
-is-register-at-requires c κs = search needs
-
-is-register-at-requires-2 : tie.Need-is-register-at-requires-2
-is-register-at-requires-2 c κs = search needs
-
-enum-told-4 : tie.Need-enum-told-4
-enum-told-4 c = search needs
-
-is-absent-at-requires : tie.Need-is-absent-at-requires
-is-absent-at-requires c κs = search needs
-
-enum-told-5 : tie.Need-enum-told-5
-enum-told-5 c = search needs
-
-imm-requires : tie.Need-imm-requires
-imm-requires c κs = search needs
-
 returns : tie.Need-returns
 returns c = sym (of-group (λ (x : Arm). generalPath x (instructionOf (now ((c .before .before .args) .body)))) true own ((c .before .before .args) .arm) tt ((c .match) .keys1))
 
@@ -85,21 +52,5 @@ pub is-general-spec : {M : Type 1} → statement M
 is-general-spec =
     tie.close
     (tie.spec
-    enum-told
-    immediate-kind-at-requires
-    enum-told-2
-    immediate-kind-at-requires-2
-    enum-told-3
-    is-register-at-requires
-    is-register-at-requires-2
-    enum-told-4
-    is-absent-at-requires
-    enum-told-5
-    imm-requires
-    returns
-    returns-2
-    returns-3
-    returns-4
-    returns-5
-    returns-6
-    returns-7)
+    (search needs) (search needs) (search needs) (search needs) (search needs) (search needs) (search needs) (search needs) (search needs)
+    (search needs) (search needs) returns returns-2 returns-3 returns-4 returns-5 returns-6 returns-7)

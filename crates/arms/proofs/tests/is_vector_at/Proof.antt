@@ -5,11 +5,8 @@ use borrow.Author.Needs.{needs}
 use Rattle.arms.proofs.tests.is_vector_at.Statement.{statement}
 use Rattle.arms.proofs.tests.is_vector_at.Tie as tie
 
-register-at-requires : tie.Need-register-at-requires
-register-at-requires c κs = search needs
-
 returns : tie.Need-returns
 returns c = rw (vector-by-byte, (c .register-at) .ensures)
 
 pub is-vector-at-spec : {M : Type 1} → statement M
-is-vector-at-spec = tie.close (tie.spec register-at-requires returns)
+is-vector-at-spec = tie.close (tie.spec (search needs) returns)

@@ -8,18 +8,6 @@ use borrow.Author.Needs.{needs}
 use Rattle.bodies.proofs.kinds.immediate_kind_at.Statement.{statement}
 use Rattle.bodies.proofs.kinds.immediate_kind_at.Tie as tie
 
-count-requires : tie.Need-count-requires
-count-requires c κs = search needs
-
-mul-at : tie.Need-mul-at
-mul-at c = search needs
-
-add-at : tie.Need-add-at
-add-at c = search needs
-
-shared-slice-read-kind : tie.Need-shared-slice-read-kind
-shared-slice-read-kind c = search needs
-
 returns : tie.Need-returns
 returns c = let a = (c .before .before .before .before .before .args) in rw (immediate-kind-by-kind (now (a .body)) (a .k) (omega (arith, (c .before .before .before .count) .ensures, (c .before .before .if1) .taken)), le-leb _ _ ((c .if2) .taken))
 
@@ -36,11 +24,4 @@ pub immediate-kind-at-spec : {M : Type 1} → statement M
 immediate-kind-at-spec =
     tie.close
     (tie.spec
-    count-requires
-    mul-at
-    add-at
-    shared-slice-read-kind
-    returns
-    returns-2
-    returns-3
-    returns-4)
+    (search needs) (search needs) (search needs) (search needs) returns returns-2 returns-3 returns-4)

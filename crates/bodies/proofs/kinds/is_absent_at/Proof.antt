@@ -6,11 +6,8 @@ use borrow.Author.Needs.{needs}
 use Rattle.bodies.proofs.kinds.is_absent_at.Statement.{statement}
 use Rattle.bodies.proofs.kinds.is_absent_at.Tie as tie
 
-count-requires : tie.Need-count-requires
-count-requires c κs = search needs
-
 returns : tie.Need-returns
 returns c = let a = (c .before .before .args) in rw (absent-by-count (now (a .body)) (a .k), (c .count) .ensures)
 
 pub is-absent-at-spec : {M : Type 1} → statement M
-is-absent-at-spec = tie.close (tie.spec count-requires returns)
+is-absent-at-spec = tie.close (tie.spec (search needs) returns)

@@ -7,18 +7,6 @@ use borrow.Author.Needs.{needs}
 use Rattle.bodies.proofs.kinds.is_register_m_at.Statement.{statement}
 use Rattle.bodies.proofs.kinds.is_register_m_at.Tie as tie
 
-count-requires : tie.Need-count-requires
-count-requires c κs = search needs
-
-mul-at : tie.Need-mul-at
-mul-at c = search needs
-
-add-at : tie.Need-add-at
-add-at c = search needs
-
-shared-slice-read-result : tie.Need-shared-slice-read-result
-shared-slice-read-result c = search needs
-
 returns : tie.Need-returns
 returns c = let a = (c .before .before .before .before .args) in rw (register-m-by-kind (now (a .body)) (a .k) (omega (arith, (c .before .before .count) .ensures, (c .before .if1) .taken)))
 
@@ -27,4 +15,6 @@ returns-2 c = let a = (c .before .before .before .args) in rw (operand-none (now
 
 pub is-register-m-at-spec : {M : Type 1} → statement M
 is-register-m-at-spec =
-    tie.close (tie.spec count-requires mul-at add-at shared-slice-read-result returns returns-2)
+    tie.close
+    (tie.spec
+    (search needs) (search needs) (search needs) (search needs) returns returns-2)

@@ -8,24 +8,6 @@ use borrow.Author.Needs.{needs}
 use Rattle.bodies.proofs.kinds.register_at.Statement.{statement}
 use Rattle.bodies.proofs.kinds.register_at.Tie as tie
 
-count-requires : tie.Need-count-requires
-count-requires c κs = search needs
-
-mul-at : tie.Need-mul-at
-mul-at c = search needs
-
-add-at : tie.Need-add-at
-add-at c = search needs
-
-shared-slice-read-if2 : tie.Need-shared-slice-read-if2
-shared-slice-read-if2 c = search needs
-
-add-result : tie.Need-add-result
-add-result c = search needs
-
-shared-slice-read-result : tie.Need-shared-slice-read-result
-shared-slice-read-result c = search needs
-
 returns : tie.Need-returns
 returns c = let a = (c .before .before .before .before .before .before .args) in rw (register-byte-by-kind (now (a .body)) (a .k) (omega (arith, (c .before .before .before .before .count) .ensures, (c .before .before .before .if1) .taken)), le-leb _ _ ((c .before .if2) .taken))
 
@@ -39,12 +21,4 @@ pub register-at-spec : {M : Type 1} → statement M
 register-at-spec =
     tie.close
     (tie.spec
-    count-requires
-    mul-at
-    add-at
-    shared-slice-read-if2
-    add-result
-    shared-slice-read-result
-    returns
-    returns-2
-    returns-3)
+    (search needs) (search needs) (search needs) (search needs) (search needs) (search needs) returns returns-2 returns-3)

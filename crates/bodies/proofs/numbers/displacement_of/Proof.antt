@@ -8,12 +8,6 @@ use Rattle.bodies.proofs.Signed.{signed-fits}
 use Rattle.bodies.proofs.numbers.displacement_of.Statement.{statement}
 use Rattle.bodies.proofs.numbers.displacement_of.Tie as tie
 
-is-displaced-requires : tie.Need-is-displaced-requires
-is-displaced-requires c κs = search needs
-
-signed-of-requires : tie.Need-signed-of-requires
-signed-of-requires c κs = search needs
-
 returns : tie.Need-returns
 unfolding dispIn
 returns c =
@@ -25,5 +19,4 @@ unfolding dispIn
 returns-2 c = rw (sym (c .before .is-displaced .ensures) ∙ c .if1 .left)
 
 pub displacement-of-spec : {M : Type 1} → statement M
-displacement-of-spec =
-    tie.close (tie.spec is-displaced-requires signed-of-requires returns returns-2)
+displacement-of-spec = tie.close (tie.spec (search needs) (search needs) returns returns-2)

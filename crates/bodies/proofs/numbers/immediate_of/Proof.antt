@@ -6,12 +6,6 @@ use borrow.Author.Tests.{eq-eqb, ne-eqb, lt-ltb, le-ltb}
 use Rattle.bodies.proofs.numbers.immediate_of.Statement.{statement}
 use Rattle.bodies.proofs.numbers.immediate_of.Tie as tie
 
-add-result : tie.Need-add-result
-add-result c = search needs
-
-add-result-2 : tie.Need-add-result-2
-add-result-2 c = search needs
-
 returns : tie.Need-returns
 unfolding immediate
 returns c = rw (eq-eqb _ _ (c .before .if1 .taken), lt-ltb _ _ (c .if2 .taken))
@@ -44,12 +38,4 @@ pub immediate-of-spec : {M : Type 1} → statement M
 immediate-of-spec =
     tie.close
     (tie.spec
-    add-result
-    add-result-2
-    returns
-    returns-2
-    returns-3
-    returns-4
-    returns-5
-    returns-6
-    returns-7)
+    (search needs) (search needs) returns returns-2 returns-3 returns-4 returns-5 returns-6 returns-7)

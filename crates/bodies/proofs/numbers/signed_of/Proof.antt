@@ -8,15 +8,6 @@ use Prim.Native.Nat.{_-_, _^_}
 use Rattle.bodies.proofs.numbers.signed_of.Statement.{statement}
 use Rattle.bodies.proofs.numbers.signed_of.Tie as tie
 
-cast-result : tie.Need-cast-result
-cast-result c = search needs
-
-sub-result : tie.Need-sub-result
-sub-result c = search needs
-
-cast-result-2 : tie.Need-cast-result-2
-cast-result-2 c = search needs
-
 returns : tie.Need-returns
 returns c = let a = c .before .args in rw (signed-toZ (a .bits) (omega arith))
 
@@ -27,4 +18,4 @@ returns-2 c =
     rw (signed-toZ (a .bits) (omega arith), back)
 
 pub signed-of-spec : {M : Type 1} → statement M
-signed-of-spec = tie.close (tie.spec cast-result sub-result cast-result-2 returns returns-2)
+signed-of-spec = tie.close (tie.spec (search needs) (search needs) (search needs) returns returns-2)

@@ -8,12 +8,6 @@ use Rattle.bodies.proofs.Signed.{displacement-fits}
 use Rattle.bodies.proofs.parts.address.Statement.{statement}
 use Rattle.bodies.proofs.parts.address.Tie as tie
 
-is-displaced-requires : tie.Need-is-displaced-requires
-is-displaced-requires c κs = search needs
-
-displacement-of-requires : tie.Need-displacement-of-requires
-displacement-of-requires c κs = search needs
-
 returns : tie.Need-returns
 unfolding addressOf
 returns c =
@@ -33,5 +27,4 @@ returns-3 c =
     rw (lt-leb _ _ (c .before .if1 .left), lt-leb _ _ (c .if2 .left), c .before .before .before .is-displaced .ensures, c .before .before .displacement-of .ensures, toZ-ofZ (displacement-fits (s .args .kind) (s .args .disp) (s .fits .disp)))
 
 pub address-spec : {M : Type 1} → statement M
-address-spec =
-    tie.close (tie.spec is-displaced-requires displacement-of-requires returns returns-2 returns-3)
+address-spec = tie.close (tie.spec (search needs) (search needs) returns returns-2 returns-3)

@@ -6,15 +6,6 @@ use borrow.Author.Tests.{le-leb, lt-leb}
 use Rattle.bodies.proofs.parts.operand.Statement.{statement}
 use Rattle.bodies.proofs.parts.operand.Tie as tie
 
-immediate-of-requires : tie.Need-immediate-of-requires
-immediate-of-requires c κs = search needs
-
-cast-t16 : tie.Need-cast-t16
-cast-t16 c = search needs
-
-address-requires : tie.Need-address-requires
-address-requires c κs = search needs
-
 returns : tie.Need-returns
 unfolding operandOf
 returns c = rw (le-leb _ _ (c .if1 .taken))
@@ -39,11 +30,4 @@ pub operand-spec : {M : Type 1} → statement M
 operand-spec =
     tie.close
     (tie.spec
-    immediate-of-requires
-    cast-t16
-    address-requires
-    returns
-    returns-2
-    returns-3
-    returns-4
-    returns-5)
+    (search needs) (search needs) (search needs) returns returns-2 returns-3 returns-4 returns-5)

@@ -6,18 +6,6 @@ use borrow.Author.Tests.{lt-ltb, le-ltb}
 use Rattle.bodies.proofs.rules.length_refused.Statement.{statement}
 use Rattle.bodies.proofs.rules.length_refused.Tie as tie
 
-byte-at-requires : tie.Need-byte-at-requires
-byte-at-requires c κs = search needs
-
-cast-result : tie.Need-cast-result
-cast-result c = search needs
-
-mul-result : tie.Need-mul-result
-mul-result c = search needs
-
-add-result : tie.Need-add-result
-add-result c = search needs
-
 returns : tie.Need-returns
 unfolding lengthRefused
 returns c = rw (lt-ltb _ _ (c .if1 .taken))
@@ -27,5 +15,4 @@ unfolding lengthRefused
 returns-2 c = rw (le-ltb _ _ (c .before .if1 .left)) (cc)
 
 pub length-refused-spec : {M : Type 1} → statement M
-length-refused-spec =
-    tie.close (tie.spec byte-at-requires cast-result mul-result add-result returns returns-2)
+length-refused-spec = tie.close (tie.spec (search needs) (search needs) (search needs) (search needs) returns returns-2)

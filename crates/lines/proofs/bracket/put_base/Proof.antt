@@ -13,9 +13,6 @@ put-register-requires : tie.Need-put-register-requires
 unfolding baseText
 put-register-requires c κs = ((c .before .before .before .pre .0), room-as (when-wanted (registerName (c .before .before .before .args .base)) (c .before .if1 .taken)) (c .before .before .before .pre .1))
 
-same-length : tie.Need-same-length
-same-length c = search needs
-
 returns : tie.Need-returns
 unfolding baseText
 returns c = put-as (sym (when-wanted (registerName (c .before .before .before .before .before .before .args .base)) (c .before .before .before .before .if1 .taken))) (c .before .before .put-register .ensures)
@@ -25,4 +22,4 @@ unfolding baseText
 returns-2 c = put-as (sym (when-not (registerName (c .before .before .args .base)) (c .if1 .left))) put-none
 
 pub put-base-spec : {M : Type 1} → statement M
-put-base-spec = tie.close (tie.spec put-register-requires same-length returns returns-2)
+put-base-spec = tie.close (tie.spec put-register-requires (search needs) returns returns-2)

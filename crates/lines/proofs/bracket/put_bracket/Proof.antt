@@ -26,9 +26,6 @@ put-tail-requires : tie.Need-put-tail-requires
 unfolding bracketText
 put-tail-requires c κs = room-as (sym (ap (tailText (c .before .before .before .before .before .before .before .before .before .before .before .before .before .before .before .args .a .displaced)) (toZ-ofZ w32 (c .before .before .before .before .before .before .before .before .before .before .before .before .before .before .before .args .a .disp) (record { sfits = (c .struct-told .given .0 .1) })))) (rest (rest (rest (c .before .before .before .before .before .before .before .before .before .before .before .before .before .before .before .pre .1) (c .before .before .before .before .before .before .before .before .before .before .before .before .put-byte .ensures)) (c .before .before .before .before .before .before .before .before .put-base .ensures)) (c .before .before .before .before .put-index .ensures))
 
-same-length : tie.Need-same-length
-same-length c = search needs
-
 returns : tie.Need-returns
 unfolding bracketText
 returns c = and-then (c .before .before .before .before .before .before .before .before .before .before .before .before .before .before .before .before .before .before .pre .1) (c .before .before .before .before .before .before .before .before .before .before .before .before .before .before .before .put-byte .ensures) (and-then (rest (c .before .before .before .before .before .before .before .before .before .before .before .before .before .before .before .before .before .before .pre .1) (c .before .before .before .before .before .before .before .before .before .before .before .before .before .before .before .put-byte .ensures)) (c .before .before .before .before .before .before .before .before .before .before .before .put-base .ensures) (and-then (rest (rest (c .before .before .before .before .before .before .before .before .before .before .before .before .before .before .before .before .before .before .pre .1) (c .before .before .before .before .before .before .before .before .before .before .before .before .before .before .before .put-byte .ensures)) (c .before .before .before .before .before .before .before .before .before .before .before .put-base .ensures)) (c .before .before .before .before .before .before .before .put-index .ensures) (put-as (ap (tailText (c .before .before .before .before .before .before .before .before .before .before .before .before .before .before .before .before .before .before .args .a .displaced)) (toZ-ofZ w32 (c .before .before .before .before .before .before .before .before .before .before .before .before .before .before .before .before .before .before .args .a .disp) (record { sfits = (c .before .before .before .struct-told .given .0 .1) }))) (c .before .before .put-tail .ensures))))
@@ -37,9 +34,4 @@ pub put-bracket-spec : {M : Type 1} → statement M
 put-bracket-spec =
     tie.close
     (tie.spec
-    put-byte-requires
-    put-base-requires
-    put-index-requires
-    put-tail-requires
-    same-length
-    returns)
+    put-byte-requires put-base-requires put-index-requires put-tail-requires (search needs) returns)

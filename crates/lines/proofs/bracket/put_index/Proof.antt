@@ -12,9 +12,6 @@ put-indexed-requires : tie.Need-put-indexed-requires
 unfolding indexText
 put-indexed-requires c κs = let a = (c .before .before .before .args .a) in ((c .before .before .before .pre .0), room-as (when-wanted (indexedText (a .based) (a .index) (a .scale)) (c .before .if1 .taken)) (c .before .before .before .pre .1))
 
-same-length : tie.Need-same-length
-same-length c = search needs
-
 returns : tie.Need-returns
 unfolding indexText
 returns c = let a = (c .before .before .before .before .before .before .args .a) in put-as (sym (when-wanted (indexedText (a .based) (a .index) (a .scale)) (c .before .before .before .before .if1 .taken))) (c .before .before .put-indexed .ensures)
@@ -24,4 +21,4 @@ unfolding indexText
 returns-2 c = let a = (c .before .before .args .a) in put-as (sym (when-not (indexedText (a .based) (a .index) (a .scale)) (c .if1 .left))) put-none
 
 pub put-index-spec : {M : Type 1} → statement M
-put-index-spec = tie.close (tie.spec put-indexed-requires same-length returns returns-2)
+put-index-spec = tie.close (tie.spec put-indexed-requires (search needs) returns returns-2)

@@ -8,9 +8,6 @@ use Rattle.text.proofs.Putting.{first, rest, and-then}
 use Rattle.names.specs.Registers.{registerName}
 use Rattle.lines.specs.Brackets.{indexedText, scaleText}
 
-slice-aggregate-put-when : tie.Need-slice-aggregate-put-when
-slice-aggregate-put-when c = search needs
-
 put-when-requires : tie.Need-put-when-requires
 unfolding indexedText
 put-when-requires c κs = first (registerName (c .before .before .before .args .index) ++ scaleText (c .before .before .before .args .scale)) ((c .before .before .before .pre .1))
@@ -23,9 +20,6 @@ put-scale-requires : tie.Need-put-scale-requires
 unfolding indexedText
 put-scale-requires c κs = rest (rest ((c .before .before .before .before .before .before .before .before .before .before .before .pre .1)) (c .before .before .before .before .before .before .before .put-when .ensures)) (c .before .before .before .put-register .ensures)
 
-same-length : tie.Need-same-length
-same-length c = search needs
-
 returns : tie.Need-returns
 unfolding indexedText
 returns c = and-then ((c .before .before .before .before .before .before .before .before .before .before .before .before .before .before .pre .1)) (c .before .before .before .before .before .before .before .before .before .before .put-when .ensures) (and-then (rest ((c .before .before .before .before .before .before .before .before .before .before .before .before .before .before .pre .1)) (c .before .before .before .before .before .before .before .before .before .before .put-when .ensures)) (c .before .before .before .before .before .before .put-register .ensures) ((c .before .before .put-scale .ensures)))
@@ -34,9 +28,4 @@ pub put-indexed-spec : {M : Type 1} → statement M
 put-indexed-spec =
     tie.close
     (tie.spec
-    slice-aggregate-put-when
-    put-when-requires
-    put-register-requires
-    put-scale-requires
-    same-length
-    returns)
+    (search needs) put-when-requires put-register-requires put-scale-requires (search needs) returns)

@@ -8,17 +8,11 @@ use Rattle.text.proofs.Putting.{first, rest, and-then, room-as, put-as, put-non
 use Rattle.numerals.specs.Digits.{digits}
 use Rattle.lines.proofs.Parts.{scale-shown, scale-hidden}
 
-slice-aggregate-put-bytes : tie.Need-slice-aggregate-put-bytes
-slice-aggregate-put-bytes c = search needs
-
 put-bytes-requires : tie.Need-put-bytes-requires
 put-bytes-requires c κs = first (digits 1 (c .before .before .before .before .args .scale)) ((room-as (scale-shown (c .before .before .if1 .taken)) (c .before .before .before .before .pre)))
 
 put-digits-requires : tie.Need-put-digits-requires
 put-digits-requires c κs = rest ((room-as (scale-shown (c .before .before .before .before .before .before .if1 .taken)) (c .before .before .before .before .before .before .before .before .pre))) (c .before .before .before .put-bytes .ensures)
-
-same-length : tie.Need-same-length
-same-length c = search needs
 
 returns : tie.Need-returns
 returns c = put-as (sym (scale-shown (c .before .before .before .before .before .before .before .before .before .if1 .taken))) (and-then ((room-as (scale-shown (c .before .before .before .before .before .before .before .before .before .if1 .taken)) (c .before .before .before .before .before .before .before .before .before .before .before .pre))) (c .before .before .before .before .before .before .put-bytes .ensures) ((c .before .before .put-digits .ensures)))
@@ -30,9 +24,4 @@ pub put-scale-spec : {M : Type 1} → statement M
 put-scale-spec =
     tie.close
     (tie.spec
-    slice-aggregate-put-bytes
-    put-bytes-requires
-    put-digits-requires
-    same-length
-    returns
-    returns-2)
+    (search needs) put-bytes-requires put-digits-requires (search needs) returns returns-2)

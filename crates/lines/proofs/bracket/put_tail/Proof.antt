@@ -25,14 +25,8 @@ put-byte-requires-2 c κs = rest (rest ((room-as (tail-shown (c .before .before 
 put-byte-requires-3 : tie.Need-put-byte-requires-3
 put-byte-requires-3 c κs = room-as (tail-hidden (c .before .before .before .args .disp) (c .before .if1 .left)) (c .before .before .before .pre)
 
-same-length : tie.Need-same-length
-same-length c = search needs
-
 returns : tie.Need-returns
 returns c = put-as (sym (tail-shown (c .before .before .before .before .before .before .before .before .before .before .before .before .if1 .taken) (toZ-ofZ w32 (c .before .before .before .before .before .before .before .before .before .before .before .before .before .before .args .disp) (c .before .before .before .before .before .before .before .before .before .before .before .before .before .before .fits .disp)))) (and-then ((room-as (tail-shown (c .before .before .before .before .before .before .before .before .before .before .before .before .if1 .taken) (toZ-ofZ w32 (c .before .before .before .before .before .before .before .before .before .before .before .before .before .before .args .disp) (c .before .before .before .before .before .before .before .before .before .before .before .before .before .before .fits .disp))) (c .before .before .before .before .before .before .before .before .before .before .before .before .before .before .pre))) (c .before .before .before .before .before .before .before .before .before .before .put-byte .ensures) (and-then (rest ((room-as (tail-shown (c .before .before .before .before .before .before .before .before .before .before .before .before .if1 .taken) (toZ-ofZ w32 (c .before .before .before .before .before .before .before .before .before .before .before .before .before .before .args .disp) (c .before .before .before .before .before .before .before .before .before .before .before .before .before .before .fits .disp))) (c .before .before .before .before .before .before .before .before .before .before .before .before .before .before .pre))) (c .before .before .before .before .before .before .before .before .before .before .put-byte .ensures)) (c .before .before .before .before .before .before .masm-displacement .ensures) ((c .before .before .put-byte2 .ensures))))
-
-same-length-2 : tie.Need-same-length-2
-same-length-2 c = search needs
 
 returns-2 : tie.Need-returns-2
 returns-2 c = put-as (sym (tail-hidden (c .before .before .before .before .before .before .args .disp) (c .before .before .before .before .if1 .left))) (c .before .before .put-byte3 .ensures)
@@ -41,11 +35,4 @@ pub put-tail-spec : {M : Type 1} → statement M
 put-tail-spec =
     tie.close
     (tie.spec
-    put-byte-requires
-    masm-displacement-requires
-    put-byte-requires-2
-    put-byte-requires-3
-    same-length
-    returns
-    same-length-2
-    returns-2)
+    put-byte-requires masm-displacement-requires put-byte-requires-2 put-byte-requires-3 (search needs) returns (search needs) returns-2)

@@ -7,38 +7,17 @@ use borrow.Author.Needs.{needs}
 use Rattle.lines.proofs.heads.put_flagged.Statement.{statement}
 use Rattle.lines.proofs.heads.put_flagged.Tie as tie
 
-flag-requires : tie.Need-flag-requires
-flag-requires c κs = search needs
-
-slice-aggregate-put-when : tie.Need-slice-aggregate-put-when
-slice-aggregate-put-when c = search needs
-
 put-when-requires : tie.Need-put-when-requires
 put-when-requires c κs = first _ (room-as (prefixes-by ((c .before .before .before .before .args) .arm) ((c .before .before .before .before .args) .flags) ((c .before .flag) .ensures) refl refl) (c .before .before .before .before .pre))
 
-flag-requires-2 : tie.Need-flag-requires-2
-flag-requires-2 c κs = search needs
-
-slice-aggregate-put-when-2 : tie.Need-slice-aggregate-put-when-2
-slice-aggregate-put-when-2 c = search needs
-
 put-when-requires-2 : tie.Need-put-when-requires-2
 put-when-requires-2 c κs = first _ (rest (room-as (prefixes-by ((c .before .before .before .before .before .before .before .before .before .before .args) .arm) ((c .before .before .before .before .before .before .before .before .before .before .args) .flags) ((c .before .before .before .before .before .before .before .flag) .ensures) ((c .before .flag2) .ensures) refl) (c .before .before .before .before .before .before .before .before .before .before .pre)) ((c .before .before .before .before .before .put-when) .ensures))
-
-flag-requires-3 : tie.Need-flag-requires-3
-flag-requires-3 c κs = search needs
-
-slice-aggregate-put-when-3 : tie.Need-slice-aggregate-put-when-3
-slice-aggregate-put-when-3 c = search needs
 
 put-when-requires-3 : tie.Need-put-when-requires-3
 put-when-requires-3 c κs = first _ (rest (rest (room-as (prefixes-by ((c .before .before .before .before .before .before .before .before .before .before .before .before .before .before .before .before .args) .arm) ((c .before .before .before .before .before .before .before .before .before .before .before .before .before .before .before .before .args) .flags) ((c .before .before .before .before .before .before .before .before .before .before .before .before .before .flag) .ensures) ((c .before .before .before .before .before .before .before .flag2) .ensures) ((c .before .flag3) .ensures)) (c .before .before .before .before .before .before .before .before .before .before .before .before .before .before .before .before .pre)) ((c .before .before .before .before .before .before .before .before .before .before .before .put-when) .ensures)) ((c .before .before .before .before .before .put-when2) .ensures))
 
 put-reps-requires : tie.Need-put-reps-requires
 put-reps-requires c κs = rest (rest (rest (room-as (prefixes-by ((c .before .before .before .before .before .before .before .before .before .before .before .before .before .before .before .before .before .before .before .before .args) .arm) ((c .before .before .before .before .before .before .before .before .before .before .before .before .before .before .before .before .before .before .before .before .args) .flags) ((c .before .before .before .before .before .before .before .before .before .before .before .before .before .before .before .before .before .flag) .ensures) ((c .before .before .before .before .before .before .before .before .before .before .before .flag2) .ensures) ((c .before .before .before .before .before .flag3) .ensures)) (c .before .before .before .before .before .before .before .before .before .before .before .before .before .before .before .before .before .before .before .before .pre)) ((c .before .before .before .before .before .before .before .before .before .before .before .before .before .before .before .put-when) .ensures)) ((c .before .before .before .before .before .before .before .before .before .put-when2) .ensures)) ((c .before .before .before .put-when3) .ensures)
-
-same-length : tie.Need-same-length
-same-length c = search needs
 
 returns : tie.Need-returns
 returns c = let by = prefixes-by ((c .before .before .before .before .before .before .before .before .before .before .before .before .before .before .before .before .before .before .before .before .before .before .before .args) .arm) ((c .before .before .before .before .before .before .before .before .before .before .before .before .before .before .before .before .before .before .before .before .before .before .before .args) .flags) ((c .before .before .before .before .before .before .before .before .before .before .before .before .before .before .before .before .before .before .before .before .flag) .ensures) ((c .before .before .before .before .before .before .before .before .before .before .before .before .before .before .flag2) .ensures) ((c .before .before .before .before .before .before .before .before .flag3) .ensures) in
@@ -51,15 +30,5 @@ pub put-flagged-spec : {M : Type 1} → statement M
 put-flagged-spec =
     tie.close
     (tie.spec
-    flag-requires
-    slice-aggregate-put-when
-    put-when-requires
-    flag-requires-2
-    slice-aggregate-put-when-2
-    put-when-requires-2
-    flag-requires-3
-    slice-aggregate-put-when-3
-    put-when-requires-3
-    put-reps-requires
-    same-length
-    returns)
+    (search needs) (search needs) put-when-requires (search needs) (search needs) put-when-requires-2 (search needs) (search needs)
+    put-when-requires-3 put-reps-requires (search needs) returns)

@@ -13,17 +13,8 @@ put-prefixes-requires c κs = first _ (room-as (head-by ((c .before .before .arg
 put-name-requires : tie.Need-put-name-requires
 put-name-requires c κs = ((c .before .before .before .before .before .before .pre) .0, first _ (rest (room-as (head-by ((c .before .before .before .before .before .before .args) .arm) ((c .before .before .before .before .before .before .args) .opcode) ((c .before .before .before .before .before .before .args) .flags) refl) ((c .before .before .before .before .before .before .pre) .1)) ((c .before .before .before .put-prefixes) .ensures)))
 
-suffixed-requires : tie.Need-suffixed-requires
-suffixed-requires c κs = search needs
-
-slice-aggregate-put-when : tie.Need-slice-aggregate-put-when
-slice-aggregate-put-when c = search needs
-
 put-when-requires : tie.Need-put-when-requires
 put-when-requires c κs = rest (rest (room-as (head-by ((c .before .before .before .before .before .before .before .before .before .before .before .before .args) .arm) ((c .before .before .before .before .before .before .before .before .before .before .before .before .args) .opcode) ((c .before .before .before .before .before .before .before .before .before .before .before .before .args) .flags) ((c .before .suffixed) .ensures)) ((c .before .before .before .before .before .before .before .before .before .before .before .before .pre) .1)) ((c .before .before .before .before .before .before .before .before .before .put-prefixes) .ensures)) ((c .before .before .before .before .before .put-name) .ensures)
-
-same-length : tie.Need-same-length
-same-length c = search needs
 
 returns : tie.Need-returns
 returns c = let by = head-by ((c .before .before .before .before .before .before .before .before .before .before .before .before .before .before .before .args) .arm) ((c .before .before .before .before .before .before .before .before .before .before .before .before .before .before .before .args) .opcode) ((c .before .before .before .before .before .before .before .before .before .before .before .before .before .before .before .args) .flags) ((c .before .before .before .before .suffixed) .ensures) in
@@ -35,10 +26,4 @@ pub put-head-spec : {M : Type 1} → statement M
 put-head-spec =
     tie.close
     (tie.spec
-    put-prefixes-requires
-    put-name-requires
-    suffixed-requires
-    slice-aggregate-put-when
-    put-when-requires
-    same-length
-    returns)
+    put-prefixes-requires put-name-requires (search needs) (search needs) put-when-requires (search needs) returns)

@@ -11,47 +11,17 @@ use borrow.Author.Needs.{needs}
 use Rattle.lines.proofs.heads.put_name.Statement.{statement}
 use Rattle.lines.proofs.heads.put_name.Tie as tie
 
-enum-told : tie.Need-enum-told
-enum-told c = search needs
-
-slice-aggregate-put-bytes : tie.Need-slice-aggregate-put-bytes
-slice-aggregate-put-bytes c = search needs
-
 put-bytes-requires : tie.Need-put-bytes-requires
 put-bytes-requires c κs = room-as (name-jmpf ((c .before .before .before .before .before .args) .opcode) ((c .before .before .enum-told) .given .1)) ((c .before .before .before .before .before .pre) .1)
-
-enum-told-2 : tie.Need-enum-told-2
-enum-told-2 c = search needs
-
-slice-aggregate-put-bytes-2 : tie.Need-slice-aggregate-put-bytes-2
-slice-aggregate-put-bytes-2 c = search needs
 
 put-bytes-requires-2 : tie.Need-put-bytes-requires-2
 put-bytes-requires-2 c κs = room-as (name-callf ((c .before .before .before .before .before .args) .opcode) ((c .before .before .enum-told2) .given .1)) ((c .before .before .before .before .before .pre) .1)
 
-enum-told-3 : tie.Need-enum-told-3
-enum-told-3 c = search needs
-
-slice-aggregate-put-bytes-3 : tie.Need-slice-aggregate-put-bytes-3
-slice-aggregate-put-bytes-3 c = search needs
-
 put-bytes-requires-3 : tie.Need-put-bytes-requires-3
 put-bytes-requires-3 c κs = room-as (name-feni ((c .before .before .before .before .before .args) .opcode) ((c .before .before .enum-told3) .given .1)) ((c .before .before .before .before .before .pre) .1)
 
-enum-told-4 : tie.Need-enum-told-4
-enum-told-4 c = search needs
-
-slice-aggregate-put-bytes-4 : tie.Need-slice-aggregate-put-bytes-4
-slice-aggregate-put-bytes-4 c = search needs
-
 put-bytes-requires-4 : tie.Need-put-bytes-requires-4
 put-bytes-requires-4 c κs = room-as (name-fdisi ((c .before .before .before .before .before .args) .opcode) ((c .before .before .enum-told4) .given .1)) ((c .before .before .before .before .before .pre) .1)
-
-enum-told-5 : tie.Need-enum-told-5
-enum-told-5 c = search needs
-
-slice-aggregate-put-bytes-5 : tie.Need-slice-aggregate-put-bytes-5
-slice-aggregate-put-bytes-5 c = search needs
 
 put-bytes-requires-5 : tie.Need-put-bytes-requires-5
 put-bytes-requires-5 c κs = room-as (name-fsetpm ((c .before .before .before .before .before .args) .opcode) ((c .before .before .enum-told5) .given .1)) ((c .before .before .before .before .before .pre) .1)
@@ -59,38 +29,20 @@ put-bytes-requires-5 c κs = room-as (name-fsetpm ((c .before .before .before .b
 put-mnemonic-requires : tie.Need-put-mnemonic-requires
 put-mnemonic-requires c κs = ((c .before .before .before .pre) .0, room-as (name-own ((c .before .before .before .args) .opcode) ((c .before .before .before .args) .arm) (of-group (λ (x : Arm). isOneOf x renamed) false (others renamed) ((c .before .before .before .args) .arm) tt ((c .before .match) .keys6))) ((c .before .before .before .pre) .1))
 
-same-length : tie.Need-same-length
-same-length c = search needs
-
 returns : tie.Need-returns
 returns c = put-as (sym (name-jmpf ((c .before .before .before .before .before .before .before .before .args) .opcode) ((c .before .before .before .before .before .enum-told) .given .1))) ((c .before .before .put-bytes) .ensures)
-
-same-length-2 : tie.Need-same-length-2
-same-length-2 c = search needs
 
 returns-2 : tie.Need-returns-2
 returns-2 c = put-as (sym (name-callf ((c .before .before .before .before .before .before .before .before .args) .opcode) ((c .before .before .before .before .before .enum-told2) .given .1))) ((c .before .before .put-bytes2) .ensures)
 
-same-length-3 : tie.Need-same-length-3
-same-length-3 c = search needs
-
 returns-3 : tie.Need-returns-3
 returns-3 c = put-as (sym (name-feni ((c .before .before .before .before .before .before .before .before .args) .opcode) ((c .before .before .before .before .before .enum-told3) .given .1))) ((c .before .before .put-bytes3) .ensures)
-
-same-length-4 : tie.Need-same-length-4
-same-length-4 c = search needs
 
 returns-4 : tie.Need-returns-4
 returns-4 c = put-as (sym (name-fdisi ((c .before .before .before .before .before .before .before .before .args) .opcode) ((c .before .before .before .before .before .enum-told4) .given .1))) ((c .before .before .put-bytes4) .ensures)
 
-same-length-5 : tie.Need-same-length-5
-same-length-5 c = search needs
-
 returns-5 : tie.Need-returns-5
 returns-5 c = put-as (sym (name-fsetpm ((c .before .before .before .before .before .before .before .before .args) .opcode) ((c .before .before .before .before .before .enum-told5) .given .1))) ((c .before .before .put-bytes5) .ensures)
-
-same-length-6 : tie.Need-same-length-6
-same-length-6 c = search needs
 
 returns-6 : tie.Need-returns-6
 returns-6 c = put-as (sym (name-own ((c .before .before .before .before .before .before .args) .opcode) ((c .before .before .before .before .before .before .args) .arm) (of-group (λ (x : Arm). isOneOf x renamed) false (others renamed) ((c .before .before .before .before .before .before .args) .arm) tt ((c .before .before .before .before .match) .keys6)))) ((c .before .before .put-mnemonic) .ensures)
@@ -99,31 +51,7 @@ pub put-name-spec : {M : Type 1} → statement M
 put-name-spec =
     tie.close
     (tie.spec
-    enum-told
-    slice-aggregate-put-bytes
-    put-bytes-requires
-    enum-told-2
-    slice-aggregate-put-bytes-2
-    put-bytes-requires-2
-    enum-told-3
-    slice-aggregate-put-bytes-3
-    put-bytes-requires-3
-    enum-told-4
-    slice-aggregate-put-bytes-4
-    put-bytes-requires-4
-    enum-told-5
-    slice-aggregate-put-bytes-5
-    put-bytes-requires-5
-    put-mnemonic-requires
-    same-length
-    returns
-    same-length-2
-    returns-2
-    same-length-3
-    returns-3
-    same-length-4
-    returns-4
-    same-length-5
-    returns-5
-    same-length-6
-    returns-6)
+    (search needs) (search needs) put-bytes-requires (search needs) (search needs) put-bytes-requires-2 (search needs) (search needs)
+    put-bytes-requires-3 (search needs) (search needs) put-bytes-requires-4 (search needs) (search needs) put-bytes-requires-5
+    put-mnemonic-requires (search needs) returns (search needs) returns-2 (search needs) returns-3 (search needs) returns-4 (search needs)
+    returns-5 (search needs) returns-6)

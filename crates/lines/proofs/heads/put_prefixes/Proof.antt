@@ -10,14 +10,5 @@ use Rattle.lines.proofs.heads.put_prefixes.Tie as tie
 returns : tie.Need-returns
 returns c = put-as (sym (no-prefixes ((c .before .before .args) .arm) ((c .if1) .taken))) put-none
 
-put-flagged-requires : tie.Need-put-flagged-requires
-put-flagged-requires c κs = search needs
-
-same-length : tie.Need-same-length
-same-length c = search needs
-
-returns-2 : tie.Need-returns-2
-returns-2 c = search needs
-
 pub put-prefixes-spec : {M : Type 1} → statement M
-put-prefixes-spec = tie.close (tie.spec returns put-flagged-requires same-length returns-2)
+put-prefixes-spec = tie.close (tie.spec returns (search needs) (search needs) (λ c. search needs))

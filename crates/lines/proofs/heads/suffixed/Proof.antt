@@ -11,12 +11,6 @@ use borrow.Author.Needs.{needs}
 use Rattle.lines.proofs.heads.suffixed.Statement.{statement}
 use Rattle.lines.proofs.heads.suffixed.Tie as tie
 
-enum-told : tie.Need-enum-told
-enum-told c = search needs
-
-flag-requires : tie.Need-flag-requires
-flag-requires c κs = search needs
-
 returns : tie.Need-returns
 returns c = sym (of-group (λ (x : Arm). suffixed x ((c .before .args) .flags)) true (Incssp ∷ Wrss ∷ []) ((c .before .args) .arm) tt ((c .match) .keys1))
 
@@ -27,4 +21,4 @@ returns-3 : tie.Need-returns-3
 returns-3 c = sym (of-group (λ (x : Arm). suffixed x ((c .before .args) .flags)) false (others (Incssp ∷ Wrss ∷ Pushf ∷ [])) ((c .before .args) .arm) tt ((c .match) .keys3))
 
 pub suffixed-spec : {M : Type 1} → statement M
-suffixed-spec = tie.close (tie.spec enum-told flag-requires returns returns-2 returns-3)
+suffixed-spec = tie.close (tie.spec (search needs) (search needs) returns returns-2 returns-3)

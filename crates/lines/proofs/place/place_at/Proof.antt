@@ -7,20 +7,11 @@ use borrow.Author.Needs.{needs}
 use Rattle.lines.proofs.place.place_at.Statement.{statement}
 use Rattle.lines.proofs.place.place_at.Tie as tie
 
-returns : tie.Need-returns
-returns c = search needs
-
-returns-2 : tie.Need-returns-2
-returns-2 c = search needs
-
-returns-3 : tie.Need-returns-3
-returns-3 c = search needs
-
-returns-4 : tie.Need-returns-4
-returns-4 c = search needs
-
 returns-5 : tie.Need-returns-5
 returns-5 c = sym (place-past ((c .before .args) .plan) ((c .before .args) .k) (omega (arith, (c .match) .rest .0 .0 .0 .1, (c .match) .rest .0 .0 .1, (c .match) .rest .0 .1, (c .match) .rest .1)))
 
 pub place-at-spec : {M : Type 1} → statement M
-place-at-spec = tie.close (tie.spec returns returns-2 returns-3 returns-4 returns-5)
+place-at-spec =
+    tie.close
+    (tie.spec
+    (λ c. search needs) (λ c. search needs) (λ c. search needs) (λ c. search needs) returns-5)

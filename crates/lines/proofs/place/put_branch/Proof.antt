@@ -10,26 +10,8 @@ use borrow.Author.Needs.{needs}
 use Rattle.lines.proofs.place.put_branch.Statement.{statement}
 use Rattle.lines.proofs.place.put_branch.Tie as tie
 
-immediate-kind-at-requires : tie.Need-immediate-kind-at-requires
-immediate-kind-at-requires c κs = search needs
-
-immediate-at-requires : tie.Need-immediate-at-requires
-immediate-at-requires c κs = search needs
-
-length-requires : tie.Need-length-requires
-length-requires c κs = search needs
-
-branch-shown-requires : tie.Need-branch-shown-requires
-branch-shown-requires c κs = search needs
-
-enum-known-shown : tie.Need-enum-known-shown
-enum-known-shown c = search needs
-
 put-sum-requires : tie.Need-put-sum-requires
 put-sum-requires c κs = room-as (ap shownText (branch-is ((c .before .before .before .before .before .before .before .before .before .before .args) .mode) (now ((c .before .before .before .before .before .before .before .before .before .before .args) .body)) refl ((c .before .before .before .before .before .before .before .immediate-kind-at) .ensures) ((c .before .before .before .before .before .before .immediate-at) .ensures) ((c .before .before .before .before .before .length) .ensures) ((c .before .before .before .before .branch-shown) .ensures)) ∙ text-branch ((c .before .before .shown) .given .1)) ((c .before .before .before .before .before .before .before .before .before .before .pre) .1)
-
-same-length : tie.Need-same-length
-same-length c = search needs
 
 returns : tie.Need-returns
 returns c = put-as (sym (ap shownText (branch-is ((c .before .before .before .before .before .before .before .before .before .before .before .before .before .args) .mode) (now ((c .before .before .before .before .before .before .before .before .before .before .before .before .before .args) .body)) refl ((c .before .before .before .before .before .before .before .before .before .before .immediate-kind-at) .ensures) ((c .before .before .before .before .before .before .before .before .before .immediate-at) .ensures) ((c .before .before .before .before .before .before .before .before .length) .ensures) ((c .before .before .before .before .before .before .before .branch-shown) .ensures)) ∙ text-branch ((c .before .before .before .before .before .shown) .given .1))) ((c .before .before .put-sum) .ensures)
@@ -41,12 +23,4 @@ pub put-branch-spec : {M : Type 1} → statement M
 put-branch-spec =
     tie.close
     (tie.spec
-    immediate-kind-at-requires
-    immediate-at-requires
-    length-requires
-    branch-shown-requires
-    enum-known-shown
-    put-sum-requires
-    same-length
-    returns
-    returns-2)
+    (search needs) (search needs) (search needs) (search needs) (search needs) put-sum-requires (search needs) returns returns-2)

@@ -11,11 +11,8 @@ put-label-requires c κs = ((c .before .before .pre) .0, first _ ((c .before .be
 put-segment-requires : tie.Need-put-segment-requires
 put-segment-requires c κs = rest ((c .before .before .before .before .before .before .pre) .1) ((c .before .before .before .put-label) .ensures)
 
-same-length : tie.Need-same-length
-same-length c = search needs
-
 returns : tie.Need-returns
 returns c = and-then ((c .before .before .before .before .before .before .before .before .before .pre) .1) ((c .before .before .before .before .before .before .put-label) .ensures) ((c .before .before .put-segment) .ensures)
 
 pub put-front-spec : {M : Type 1} → statement M
-put-front-spec = tie.close (tie.spec put-label-requires put-segment-requires same-length returns)
+put-front-spec = tie.close (tie.spec put-label-requires put-segment-requires (search needs) returns)

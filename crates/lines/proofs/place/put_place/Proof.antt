@@ -9,26 +9,11 @@ use borrow.Author.Needs.{needs}
 use Rattle.lines.proofs.place.put_place.Statement.{statement}
 use Rattle.lines.proofs.place.put_place.Tie as tie
 
-enum-told : tie.Need-enum-told
-enum-told c = search needs
-
-enum-known-place : tie.Need-enum-known-place
-enum-known-place c = search needs
-
 put-register-requires : tie.Need-put-register-requires
 put-register-requires c κs = ((c .before .before .before .before .before .before .pre) .0, room-as (place-register ((c .before .before .before .before .before .before .args) .mode) (instructionOf (now ((c .before .before .before .before .before .before .args) .body))) ((c .before .before .place) .given .1)) ((c .before .before .before .before .before .before .pre) .1 .1 .1 .1))
 
-enum-told-2 : tie.Need-enum-told-2
-enum-told-2 c = search needs
-
 put-branch-requires : tie.Need-put-branch-requires
 put-branch-requires c κs = ((c .before .before .before .before .before .pre) .1 .1 .0, room-as (place-branch ((c .before .before .before .before .before .args) .mode) (instructionOf (now ((c .before .before .before .before .before .args) .body))) ((c .before .enum-told2) .given .1)) ((c .before .before .before .before .before .pre) .1 .1 .1 .1))
-
-enum-known-place-2 : tie.Need-enum-known-place-2
-enum-known-place-2 c = search needs
-
-operand-at-requires : tie.Need-operand-at-requires
-operand-at-requires c κs = search needs
 
 put-operand-requires : tie.Need-put-operand-requires
 put-operand-requires c κs = ((c .before .before .before .before .before .before .before .pre) .0, ((c .before .before .before .before .before .before .before .pre) .1 .0, room-as (place-operand ((c .before .before .before .before .before .before .before .args) .mode) (now ((c .before .before .before .before .before .before .before .args) .body)) ((c .before .before .before .before .before .before .before .pre) .1 .1 .1 .0) ((c .before .before .before .place2) .given .1) ((c .operand-at) .ensures)) ((c .before .before .before .before .before .before .before .pre) .1 .1 .1 .1)))
@@ -36,20 +21,11 @@ put-operand-requires c κs = ((c .before .before .before .before .before .before
 returns : tie.Need-returns
 returns c = put-as (sym (place-nothing ((c .before .before .before .before .args) .mode) (instructionOf (now ((c .before .before .before .before .args) .body))) ((c .enum-told) .given .1))) put-none
 
-same-length : tie.Need-same-length
-same-length c = search needs
-
 returns-2 : tie.Need-returns-2
 returns-2 c = put-as (sym (place-register ((c .before .before .before .before .before .before .before .before .before .args) .mode) (instructionOf (now ((c .before .before .before .before .before .before .before .before .before .args) .body))) ((c .before .before .before .before .before .place) .given .1))) ((c .before .before .put-register) .ensures)
 
-same-length-2 : tie.Need-same-length-2
-same-length-2 c = search needs
-
 returns-3 : tie.Need-returns-3
 returns-3 c = put-as (sym (place-branch ((c .before .before .before .before .before .before .before .before .args) .mode) (instructionOf (now ((c .before .before .before .before .before .before .before .before .args) .body))) ((c .before .before .before .before .enum-told2) .given .1))) ((c .before .before .put-branch) .ensures)
-
-same-length-3 : tie.Need-same-length-3
-same-length-3 c = search needs
 
 returns-4 : tie.Need-returns-4
 returns-4 c = put-as (sym (place-operand ((c .before .before .before .before .before .before .before .before .before .before .args) .mode) (now ((c .before .before .before .before .before .before .before .before .before .before .args) .body)) ((c .before .before .before .before .before .before .before .before .before .before .pre) .1 .1 .1 .0) ((c .before .before .before .before .before .before .place2) .given .1) ((c .before .before .before .operand-at) .ensures))) ((c .before .before .put-operand) .ensures)
@@ -58,18 +34,5 @@ pub put-place-spec : {M : Type 1} → statement M
 put-place-spec =
     tie.close
     (tie.spec
-    enum-told
-    enum-known-place
-    put-register-requires
-    enum-told-2
-    put-branch-requires
-    enum-known-place-2
-    operand-at-requires
-    put-operand-requires
-    returns
-    same-length
-    returns-2
-    same-length-2
-    returns-3
-    same-length-3
-    returns-4)
+    (search needs) (search needs) put-register-requires (search needs) put-branch-requires (search needs) (search needs)
+    put-operand-requires returns (search needs) returns-2 (search needs) returns-3 (search needs) returns-4)

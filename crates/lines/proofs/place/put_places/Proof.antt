@@ -104,17 +104,5 @@ pub put-places-spec : {M : Type 1} → statement M
 put-places-spec =
     tie.close
     (tie.spec
-    Inv-loop
-    μ-loop
-    loop-holds
-    place-at-requires
-    shows-something-requires
-    same-length
-    returns
-    put-separator-requires
-    put-place-requires
-    add-k
-    loop-less
-    loop-again
-    same-length-2
-    returns-2)
+    Inv-loop μ-loop loop-holds place-at-requires shows-something-requires same-length returns put-separator-requires put-place-requires
+    add-k loop-less loop-again same-length-2 returns-2)

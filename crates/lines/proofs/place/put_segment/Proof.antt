@@ -13,9 +13,6 @@ put-segment-requires c κs = first _ (room-as (segment-some ((c .before .if1) .t
 put-byte-requires : tie.Need-put-byte-requires
 put-byte-requires c κs = rest (room-as (segment-some ((c .before .before .before .before .before .if1) .taken)) (c .before .before .before .before .before .before .before .pre)) ((c .before .before .before .put-segment) .ensures)
 
-same-length : tie.Need-same-length
-same-length c = search needs
-
 returns : tie.Need-returns
 returns c = put-as (sym (segment-some ((c .before .before .before .before .before .before .before .before .if1) .taken))) (and-then (room-as (segment-some ((c .before .before .before .before .before .before .before .before .if1) .taken)) (c .before .before .before .before .before .before .before .before .before .before .pre)) ((c .before .before .before .before .before .before .put-segment) .ensures) ((c .before .before .put-byte) .ensures))
 
@@ -23,5 +20,4 @@ returns-2 : tie.Need-returns-2
 returns-2 c = put-as (sym (segment-none ((c .if1) .left))) put-none
 
 pub put-segment-spec : {M : Type 1} → statement M
-put-segment-spec =
-    tie.close (tie.spec put-segment-requires put-byte-requires same-length returns returns-2)
+put-segment-spec = tie.close (tie.spec put-segment-requires put-byte-requires (search needs) returns returns-2)

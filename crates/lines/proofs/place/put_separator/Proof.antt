@@ -10,20 +10,11 @@ use Rattle.lines.proofs.Places.{separator-first, separator-later}
 put-byte-requires : tie.Need-put-byte-requires
 put-byte-requires c κs = room-as (separator-first ((c .before .before .before .args .k)) ((c .before .if1 .taken))) ((c .before .before .before .pre))
 
-slice-aggregate-put-bytes : tie.Need-slice-aggregate-put-bytes
-slice-aggregate-put-bytes c = search needs
-
 put-bytes-requires : tie.Need-put-bytes-requires
 put-bytes-requires c κs = room-as (separator-later ((c .before .before .before .before .args .k)) ((c .before .before .if1 .left))) ((c .before .before .before .before .pre))
 
-same-length : tie.Need-same-length
-same-length c = search needs
-
 returns : tie.Need-returns
 returns c = put-as (sym (separator-first ((c .before .before .before .before .before .before .args .k)) ((c .before .before .before .before .if1 .taken)))) ((c .before .before .put-byte .ensures))
-
-same-length-2 : tie.Need-same-length-2
-same-length-2 c = search needs
 
 returns-2 : tie.Need-returns-2
 returns-2 c = put-as (sym (separator-later ((c .before .before .before .before .before .before .before .args .k)) ((c .before .before .before .before .before .if1 .left)))) ((c .before .before .put-bytes .ensures))
@@ -32,10 +23,4 @@ pub put-separator-spec : {M : Type 1} → statement M
 put-separator-spec =
     tie.close
     (tie.spec
-    put-byte-requires
-    slice-aggregate-put-bytes
-    put-bytes-requires
-    same-length
-    returns
-    same-length-2
-    returns-2)
+    put-byte-requires (search needs) put-bytes-requires (search needs) returns (search needs) returns-2)

@@ -7,26 +7,14 @@ use Rattle.lines.proofs.place.put_sign.Tie as tie
 use Rattle.text.proofs.Putting.{room-as, put-as}
 use Rattle.lines.proofs.Parts.{sign-minus, sign-plus}
 
-slice-aggregate-put-bytes : tie.Need-slice-aggregate-put-bytes
-slice-aggregate-put-bytes c = search needs
-
 put-bytes-requires : tie.Need-put-bytes-requires
 put-bytes-requires c κs = room-as (sign-minus (c .before .before .if1 .taken)) (c .before .before .before .before .pre)
-
-slice-aggregate-put-bytes-2 : tie.Need-slice-aggregate-put-bytes-2
-slice-aggregate-put-bytes-2 c = search needs
 
 put-bytes-requires-2 : tie.Need-put-bytes-requires-2
 put-bytes-requires-2 c κs = room-as (sign-plus (c .before .before .if1 .left)) (c .before .before .before .before .pre)
 
-same-length : tie.Need-same-length
-same-length c = search needs
-
 returns : tie.Need-returns
 returns c = put-as (sym (sign-minus (c .before .before .before .before .before .if1 .taken))) (c .before .before .put-bytes .ensures)
-
-same-length-2 : tie.Need-same-length-2
-same-length-2 c = search needs
 
 returns-2 : tie.Need-returns-2
 returns-2 c = put-as (sym (sign-plus (c .before .before .before .before .before .if1 .left))) (c .before .before .put-bytes2 .ensures)
@@ -35,11 +23,4 @@ pub put-sign-spec : {M : Type 1} → statement M
 put-sign-spec =
     tie.close
     (tie.spec
-    slice-aggregate-put-bytes
-    put-bytes-requires
-    slice-aggregate-put-bytes-2
-    put-bytes-requires-2
-    same-length
-    returns
-    same-length-2
-    returns-2)
+    (search needs) put-bytes-requires (search needs) put-bytes-requires-2 (search needs) returns (search needs) returns-2)

@@ -8,9 +8,6 @@ use Rattle.text.proofs.Putting.{first, rest, and-then}
 use Rattle.numerals.specs.Numerals.{numeral}
 use Rattle.lines.specs.Items.{signText, branchText}
 
-slice-aggregate-put-when : tie.Need-slice-aggregate-put-when
-slice-aggregate-put-when c = search needs
-
 put-when-requires : tie.Need-put-when-requires
 unfolding branchText
 put-when-requires c κs = first (signText (c .before .before .before .args .minus) ++ numeral (c .before .before .before .args .size)) ((c .before .before .before .pre))
@@ -23,9 +20,6 @@ put-numeral-requires : tie.Need-put-numeral-requires
 unfolding branchText
 put-numeral-requires c κs = rest (rest ((c .before .before .before .before .before .before .before .before .before .before .before .pre)) (c .before .before .before .before .before .before .before .put-when .ensures)) (c .before .before .before .put-sign .ensures)
 
-same-length : tie.Need-same-length
-same-length c = search needs
-
 returns : tie.Need-returns
 unfolding branchText
 returns c = and-then ((c .before .before .before .before .before .before .before .before .before .before .before .before .before .before .pre)) (c .before .before .before .before .before .before .before .before .before .before .put-when .ensures) (and-then (rest ((c .before .before .before .before .before .before .before .before .before .before .before .before .before .before .pre)) (c .before .before .before .before .before .before .before .before .before .before .put-when .ensures)) (c .before .before .before .before .before .before .put-sign .ensures) ((c .before .before .put-numeral .ensures)))
@@ -34,9 +28,4 @@ pub put-sum-spec : {M : Type 1} → statement M
 put-sum-spec =
     tie.close
     (tie.spec
-    slice-aggregate-put-when
-    put-when-requires
-    put-sign-requires
-    put-numeral-requires
-    same-length
-    returns)
+    (search needs) put-when-requires put-sign-requires put-numeral-requires (search needs) returns)

@@ -5,21 +5,6 @@ use borrow.Author.Needs.{needs}
 use Rattle.lines.proofs.place.shown_segment.Statement.{statement}
 use Rattle.lines.proofs.place.shown_segment.Tie as tie
 
-enum-told : tie.Need-enum-told
-enum-told c = search needs
-
-enum-told-2 : tie.Need-enum-told-2
-enum-told-2 c = search needs
-
-enum-told-3 : tie.Need-enum-told-3
-enum-told-3 c = search needs
-
-returns : tie.Need-returns
-returns c = search needs
-
-returns-2 : tie.Need-returns-2
-returns-2 c = search needs
-
 returns-3 : tie.Need-returns-3
 returns-3 c = rw ((c .before .enum-told3) .given .1, eq-eqb ((c .before .before .before .args) .own) 4 ((c .if1) .taken))
 
@@ -28,4 +13,6 @@ returns-4 c = rw ((c .before .enum-told3) .given .1, ne-eqb ((c .before .before 
 
 pub shown-segment-spec : {M : Type 1} → statement M
 shown-segment-spec =
-    tie.close (tie.spec enum-told enum-told-2 enum-told-3 returns returns-2 returns-3 returns-4)
+    tie.close
+    (tie.spec
+    (search needs) (search needs) (search needs) (λ c. search needs) (λ c. search needs) returns-3 returns-4)

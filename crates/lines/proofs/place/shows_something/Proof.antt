@@ -9,21 +9,6 @@ use borrow.Author.Needs.{needs}
 use Rattle.lines.proofs.place.shows_something.Statement.{statement}
 use Rattle.lines.proofs.place.shows_something.Tie as tie
 
-enum-told : tie.Need-enum-told
-enum-told c = search needs
-
-enum-told-2 : tie.Need-enum-told-2
-enum-told-2 c = search needs
-
-enum-told-3 : tie.Need-enum-told-3
-enum-told-3 c = search needs
-
-enum-known-place : tie.Need-enum-known-place
-enum-known-place c = search needs
-
-count-requires : tie.Need-count-requires
-count-requires c κs = search needs
-
 returns : tie.Need-returns
 returns c = λ mode. sym (shows-nothing mode (instructionOf (now ((c .before .before .before .args) .body))) ((c .enum-told) .given .1))
 
@@ -40,12 +25,4 @@ pub shows-something-spec : {M : Type 1} → statement M
 shows-something-spec =
     tie.close
     (tie.spec
-    enum-told
-    enum-told-2
-    enum-told-3
-    enum-known-place
-    count-requires
-    returns
-    returns-2
-    returns-3
-    returns-4)
+    (search needs) (search needs) (search needs) (search needs) (search needs) returns returns-2 returns-3 returns-4)

@@ -8,20 +8,11 @@ use borrow.Author.Needs.{needs}
 use Rattle.lines.proofs.print.put_line.Statement.{statement}
 use Rattle.lines.proofs.print.put_line.Tie as tie
 
-opcode-requires : tie.Need-opcode-requires
-opcode-requires c κs = search needs
-
-flags-requires : tie.Need-flags-requires
-flags-requires c κs = search needs
-
 put-head-requires : tie.Need-put-head-requires
 put-head-requires c κs = ((c .before .before .before .before .before .pre) .0, first _ (room-as (line-by ((c .before .before .before .before .before .args) .mode) ((c .before .before .before .before .before .args) .arm) ((c .before .before .before .before .before .args) .plan) (now ((c .before .before .before .before .before .args) .body)) ((c .before .before .opcode) .ensures) ((c .before .flags) .ensures)) ((c .before .before .before .before .before .pre) .1 .1 .1 .1 .1 .1)))
 
 put-places-requires : tie.Need-put-places-requires
 put-places-requires c κs = ((c .before .before .before .before .before .before .before .before .before .pre) .1 .0, ((c .before .before .before .before .before .before .before .before .before .pre) .1 .1 .0, ((c .before .before .before .before .before .before .before .before .before .pre) .1 .1 .1 .0, ((c .before .before .before .before .before .before .before .before .before .pre) .1 .1 .1 .1 .0, ((c .before .before .before .before .before .before .before .before .before .pre) .1 .1 .1 .1 .1 .0, rest (room-as (line-by ((c .before .before .before .before .before .before .before .before .before .args) .mode) ((c .before .before .before .before .before .before .before .before .before .args) .arm) ((c .before .before .before .before .before .before .before .before .before .args) .plan) (now ((c .before .before .before .before .before .before .before .before .before .args) .body)) ((c .before .before .before .before .before .before .opcode) .ensures) ((c .before .before .before .before .before .flags) .ensures)) ((c .before .before .before .before .before .before .before .before .before .pre) .1 .1 .1 .1 .1 .1)) ((c .before .before .before .put-head) .ensures))))))
-
-same-length : tie.Need-same-length
-same-length c = search needs
 
 returns : tie.Need-returns
 returns c = let by = line-by ((c .before .before .before .before .before .before .before .before .before .before .before .before .args) .mode) ((c .before .before .before .before .before .before .before .before .before .before .before .before .args) .arm) ((c .before .before .before .before .before .before .before .before .before .before .before .before .args) .plan) (now ((c .before .before .before .before .before .before .before .before .before .before .before .before .args) .body)) ((c .before .before .before .before .before .before .before .before .before .opcode) .ensures) ((c .before .before .before .before .before .before .before .before .flags) .ensures) in
@@ -31,9 +22,4 @@ pub put-line-spec : {M : Type 1} → statement M
 put-line-spec =
     tie.close
     (tie.spec
-    opcode-requires
-    flags-requires
-    put-head-requires
-    put-places-requires
-    same-length
-    returns)
+    (search needs) (search needs) put-head-requires put-places-requires (search needs) returns)

@@ -16,12 +16,9 @@ unfolding labels labelWord
 put-word-requires c κs =
     word-asked ((c .before .before .before .before .before .pre .0)) (c .before .before .before .before .before .args .label) (c .before .before .before .if1 .left) (c .before .before .before .before .before .pre .1)
 
-same-length : tie.Need-same-length
-same-length c = search needs
-
 returns-2 : tie.Need-returns-2
 unfolding labels labelWord
 returns-2 c = word-put ((c .before .before .before .before .before .before .before .before .pre .0)) (c .before .before .before .before .before .before .before .before .args .label) (c .before .before .before .before .before .before .if1 .left) (c .before .before .put-word .ensures)
 
 pub put-label-spec : {M : Type 1} → statement M
-put-label-spec = tie.close (tie.spec returns put-word-requires same-length returns-2)
+put-label-spec = tie.close (tie.spec returns put-word-requires (search needs) returns-2)

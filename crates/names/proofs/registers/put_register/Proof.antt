@@ -16,12 +16,9 @@ unfolding registers registerName
 put-word-requires c κs =
     word-asked ((c .before .before .before .before .before .pre .0)) (c .before .before .before .before .before .args .reg) (c .before .before .before .if1 .left) (c .before .before .before .before .before .pre .1)
 
-same-length : tie.Need-same-length
-same-length c = search needs
-
 returns-2 : tie.Need-returns-2
 unfolding registers registerName
 returns-2 c = word-put ((c .before .before .before .before .before .before .before .before .pre .0)) (c .before .before .before .before .before .before .before .before .args .reg) (c .before .before .before .before .before .before .if1 .left) (c .before .before .put-word .ensures)
 
 pub put-register-spec : {M : Type 1} → statement M
-put-register-spec = tie.close (tie.spec returns put-word-requires same-length returns-2)
+put-register-spec = tie.close (tie.spec returns put-word-requires (search needs) returns-2)
