@@ -24,4 +24,5 @@ pub immediate-at-spec : {M : Type 1} → statement M
 immediate-at-spec =
     tie.close
     (tie.spec
-    (search needs) (search needs) (search needs) (search needs) (search needs) (search needs) returns returns-2 returns-3 returns-4)
+    (search needs) (λ c. search needs) (λ c. search needs) (λ c. search needs) (search needs) (search needs) returns returns-2 returns-3
+    returns-4)

@@ -24,4 +24,4 @@ pub immediate-kind-at-spec : {M : Type 1} → statement M
 immediate-kind-at-spec =
     tie.close
     (tie.spec
-    (search needs) (search needs) (search needs) (search needs) returns returns-2 returns-3 returns-4)
+    (search needs) (λ c. search needs) (λ c. search needs) (λ c. search needs) returns returns-2 returns-3 returns-4)

@@ -17,4 +17,4 @@ pub is-register-m-at-spec : {M : Type 1} → statement M
 is-register-m-at-spec =
     tie.close
     (tie.spec
-    (search needs) (search needs) (search needs) (search needs) returns returns-2)
+    (search needs) (λ c. search needs) (λ c. search needs) (λ c. search needs) returns returns-2)

@@ -17,4 +17,4 @@ pub is-register-r-at-spec : {M : Type 1} → statement M
 is-register-r-at-spec =
     tie.close
     (tie.spec
-    (search needs) (search needs) (search needs) (search needs) returns returns-2)
+    (search needs) (λ c. search needs) (λ c. search needs) (λ c. search needs) returns returns-2)

@@ -21,4 +21,5 @@ pub register-at-spec : {M : Type 1} → statement M
 register-at-spec =
     tie.close
     (tie.spec
-    (search needs) (search needs) (search needs) (search needs) (search needs) (search needs) returns returns-2 returns-3)
+    (search needs) (λ c. search needs) (λ c. search needs) (λ c. search needs) (λ c. search needs) (λ c. search needs) returns returns-2
+    returns-3)

@@ -38,4 +38,4 @@ pub immediate-of-spec : {M : Type 1} → statement M
 immediate-of-spec =
     tie.close
     (tie.spec
-    (search needs) (search needs) returns returns-2 returns-3 returns-4 returns-5 returns-6 returns-7)
+    (λ c. search needs) (λ c. search needs) returns returns-2 returns-3 returns-4 returns-5 returns-6 returns-7)

@@ -18,4 +18,4 @@ returns-2 c =
     rw (signed-toZ (a .bits) (omega arith), back)
 
 pub signed-of-spec : {M : Type 1} → statement M
-signed-of-spec = tie.close (tie.spec (search needs) (search needs) (search needs) returns returns-2)
+signed-of-spec = tie.close (tie.spec (λ c. search needs) (λ c. search needs) (λ c. search needs) returns returns-2)

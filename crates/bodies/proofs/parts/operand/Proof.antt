@@ -30,4 +30,4 @@ pub operand-spec : {M : Type 1} → statement M
 operand-spec =
     tie.close
     (tie.spec
-    (search needs) (search needs) (search needs) returns returns-2 returns-3 returns-4 returns-5)
+    (search needs) (λ c. search needs) (search needs) returns returns-2 returns-3 returns-4 returns-5)

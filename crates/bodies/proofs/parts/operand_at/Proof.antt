@@ -21,5 +21,6 @@ pub operand-at-spec : {M : Type 1} → statement M
 operand-at-spec =
     tie.close
     (tie.spec
-    (search needs) (search needs) (search needs) (search needs) (search needs) (search needs) (search needs) (search needs) (search needs)
-    (search needs) (search needs) (search needs) (search needs) (search needs) (search needs) returns returns-2)
+    (search needs) (λ c. search needs) (λ c. search needs) (search needs) (search needs) (λ c. search needs) (λ c. search needs)
+    (λ c. search needs) (λ c. search needs) (λ c. search needs) (λ c. search needs) (λ c. search needs) (λ c. search needs)
+    (λ c. search needs) (search needs) returns returns-2)

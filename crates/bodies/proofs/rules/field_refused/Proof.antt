@@ -13,5 +13,5 @@ pub field-refused-spec : {M : Type 1} → statement M
 field-refused-spec =
     tie.close
     (tie.spec
-    (search needs) (search needs) (search needs) (search needs) (search needs) (search needs) (search needs) (search needs) (search needs)
-    returns)
+    (search needs) (λ c. search needs) (λ c. search needs) (λ c. search needs) (search needs) (search needs) (search needs) (search needs)
+    (λ c. search needs) returns)

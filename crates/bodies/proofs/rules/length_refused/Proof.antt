@@ -15,4 +15,7 @@ unfolding lengthRefused
 returns-2 c = rw (le-ltb _ _ (c .before .if1 .left)) (cc)
 
 pub length-refused-spec : {M : Type 1} → statement M
-length-refused-spec = tie.close (tie.spec (search needs) (search needs) (search needs) (search needs) returns returns-2)
+length-refused-spec =
+    tie.close
+    (tie.spec
+    (search needs) (λ c. search needs) (λ c. search needs) (λ c. search needs) returns returns-2)

@@ -23,6 +23,6 @@ pub operand-refused-spec : {M : Type 1} → statement M
 operand-refused-spec =
     tie.close
     (tie.spec
-    (search needs) (search needs) (search needs) (search needs) (search needs) (search needs) (search needs) (search needs) (search needs)
-    (search needs) (search needs) (search needs) (search needs) (search needs) (search needs) (search needs) (search needs) returns
-    returns-2)
+    (search needs) (λ c. search needs) (λ c. search needs) (λ c. search needs) (λ c. search needs) (λ c. search needs) (λ c. search needs)
+    (search needs) (λ c. search needs) (λ c. search needs) (search needs) (λ c. search needs) (λ c. search needs) (search needs)
+    (λ c. search needs) (λ c. search needs) (search needs) returns returns-2)
