@@ -1,5 +1,6 @@
-// Numbers as text: document 01's numerals, displacements and absolutes.
+// Numbers as text: document 01's numerals, displacements and absolutes, and decimals.
 pub mod absolute;
+pub mod decimals;
 pub mod digits;
 pub mod displacement;
 pub mod numeral;
