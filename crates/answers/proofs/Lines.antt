@@ -1,15 +1,15 @@
 -- The line of a refused record: its parts, and how long it is.
 -- Assumes nothing.
-use mathlib.Core.Path.{_≡_, refl}
+use mathlib.Core.Path.{_≡_}
 use mathlib.Core.Bool.{Bool, true, false, cond}
-use mathlib.Core.List.{List, [], _∷_, _++_}
+use mathlib.Core.List.{[], _∷_}
 use Prim.Native.Nat.{ℕ, _+_, _/_, _%_, _≤_, _<_}
 use native.Mathlib.Omega.{arith}
 use lib.Dec.{ltb}
 use lib.ListN.{length, length-append}
 use borrow.Author.Tests.{lt-ltb, le-ltb}
 use Rattle.text.specs.Words.{bytes}
-use Rattle.answers.specs.Lines.{newline, decimal, refusedLine}
+use Rattle.answers.specs.Lines.{newline, decimal, refusedText, refusedLine}
 
 pub decimal-one : (n : ℕ) → n < 10 → decimal n ≡ (48 + n) ∷ []
 decimal-one n h = rw (lt-ltb n 10 h)
@@ -24,7 +24,11 @@ decimal-most n = go (ltb n 10)
     go true = omega arith
     go false = omega arith
 
--- it has 13 bytes at the most: 10 letters, two digits, the newline
+-- it has 12 bytes at the most: 10 letters, two digits; and the newline
+pub refused-text-most : (n : ℕ) → length (refusedText n) ≤ 12
+unfolding refusedText
+refused-text-most n = omega (arith, decimal-most n, length-append (bytes "; refused ") (decimal n))
+
 pub refused-most : (n : ℕ) → length (refusedLine n) ≤ 13
 unfolding refusedLine
-refused-most n = omega (arith, decimal-most n, length-append (bytes "; refused ") (decimal n ++ newline), length-append (decimal n) newline)
+refused-most n = omega (arith, refused-text-most n, length-append (refusedText n) newline)

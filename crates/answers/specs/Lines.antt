@@ -13,5 +13,9 @@ newline = 10 ∷ []
 abbrev pub decimal : ℕ → List ℕ
 decimal n = cond (ltb n 10) ((48 + n) ∷ []) ((48 + n / 10) ∷ (48 + n % 10) ∷ [])
 
+-- what is said of a refused record, and its line
+unfoldable pub refusedText : ℕ → List ℕ
+refusedText n = bytes "; refused " ++ decimal n
+
 unfoldable pub refusedLine : ℕ → List ℕ
-refusedLine n = bytes "; refused " ++ (decimal n ++ newline)
+refusedLine n = refusedText n ++ newline

@@ -1,7 +1,7 @@
 // Answers: a number and a length. A refusal is its number, handed up as it is.
 ghost use Prim.Native.Nat.{_<_};
 ghost use Rattle.text.specs.Code.{Room, Put};
-ghost use Rattle.answers.specs.Lines.{decimal, refusedLine};
+ghost use Rattle.answers.specs.Lines.{decimal, refusedText, refusedLine};
 ghost use Rattle.answers.specs.Outcomes.{Gives};
 ghost use Rattle.answers.specs.Code.{textOutcome};
 
@@ -26,14 +26,23 @@ pub struct Answer {
     pub length: usize,
 }
 
+// What is said of a record that is refused, without the newline.
+pub fn put_refusal(text: &mut [u8], at: usize, n: u8) -> usize
+    requires { ⌜ n < 100 ⌝ }
+    requires { ⌜ Room (now text) at (refusedText n) ⌝ }
+    ensures { λ r. ⌜ Put (now (text .entry)) at (refusedText n) r (now (text .exit)) ⌝ }
+{
+    let next = text::put_bytes(text, at, b"; refused ");
+    put_decimal(text, next, n)
+}
+
 // The line of a record that is refused.
 pub fn put_refused(text: &mut [u8], at: usize, n: u8) -> usize
     requires { ⌜ n < 100 ⌝ }
     requires { ⌜ Room (now text) at (refusedLine n) ⌝ }
     ensures { λ r. ⌜ Put (now (text .entry)) at (refusedLine n) r (now (text .exit)) ⌝ }
 {
-    let next = text::put_bytes(text, at, b"; refused ");
-    let next = put_decimal(text, next, n);
+    let next = put_refusal(text, at, n);
     text::put_byte(text, next, b'\n')
 }
 

@@ -12,7 +12,7 @@ use lib.Ieee.Bits.{is-false}
 use lib.ListN.{take, drop}
 use lib.Seq.{getD-drop}
 use Rattle.text.specs.Words.{bytes}
-use Rattle.answers.specs.Lines.{newline, decimal, refusedLine}
+use Rattle.answers.specs.Lines.{newline, decimal, refusedText, refusedLine}
 use Rattle.answers.specs.Refusals.{answerOf}
 use Rattle.bodies.specs.WellFormed.{Bytes}
 use Rattle.bodies.proofs.Picks.{picked}
@@ -74,9 +74,13 @@ decimal-unbroken n =
     (λ e. pair (not (eqb (48 + n) 10)) true (digit-unbroken n) tt)
     (λ e. pair (not (eqb (48 + n / 10) 10)) _ (digit-unbroken (n / 10)) (pair (not (eqb (48 + n % 10) 10)) true (digit-unbroken (n % 10)) tt))
 
+pub refused-unbroken : (n : ℕ) → T (unbroken (refusedText n))
+unfolding refusedText
+refused-unbroken n = decimal-unbroken n
+
 refused-reads : (n : ℕ) → LineReads none (refusedLine n)
-unfolding read refusedLine
-refused-reads n = record { line = bytes "; refused " ++ decimal n; ends = refl; one = decimal-unbroken n; reads = λ start. refl }
+unfolding read refusedText refusedLine
+refused-reads n = record { line = refusedText n; ends = refl; one = refused-unbroken n; reads = λ start. refl }
 
 pub record-reads : (asked : Asked) (body : List ℕ) → Bytes body → LineReads (recordShows asked body) (recordLine asked body)
 unfolding recordLine
