@@ -50,13 +50,13 @@ module _ (f : List ℕ → ℕ) where
       (sum-any k j (drop (frameSize ys) ys) (omega (arith, left, some)) (omega (arith, left, some)))
 
   -- part of a frame counts nothing
-  sum-part : (xs : List ℕ) → isWhole xs ≡ false → sumOf f xs ≡ 0
+  pub sum-part : (xs : List ℕ) → isWhole xs ≡ false → sumOf f xs ≡ 0
   unfolding sumOf sumWithin
   sum-part [] e = refl
   sum-part (x ∷ xs) e = rw e
 
   -- a whole frame, and what comes after it
-  sum-whole : (xs : List ℕ) → 2 + bodyLength xs ≤ length xs → sumOf f xs ≡ f (bodyOf xs) + sumOf f (drop (2 + bodyLength xs) xs)
+  pub sum-whole : (xs : List ℕ) → 2 + bodyLength xs ≤ length xs → sumOf f xs ≡ f (bodyOf xs) + sumOf f (drop (2 + bodyLength xs) xs)
   unfolding sumOf sumWithin
   sum-whole [] h = absurd (omega (arith, h))
   sum-whole (x ∷ xs) h =

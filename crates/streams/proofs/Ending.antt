@@ -56,7 +56,7 @@ tail-any (suc k) (suc j) (x ∷ xs) h l =
     (tail-any k j (drop (frameSize ys) ys) (omega (arith, left, some)) (omega (arith, left, some)))
 
 -- part of a frame is left, all of it
-tail-part : (xs : List ℕ) → isWhole xs ≡ false → tailOf xs ≡ length xs
+pub tail-part : (xs : List ℕ) → isWhole xs ≡ false → tailOf xs ≡ length xs
 unfolding tailOf tailWithin
 tail-part [] e = refl
 tail-part (x ∷ xs) e = rw e
@@ -74,11 +74,11 @@ tail-whole (x ∷ xs) h =
     ∙ ap (λ (n : ℕ). tailWithin (length (drop n ys)) (drop n ys)) size
 
 -- the end of what is to come, by the bytes that are left
-end-by : (xs : List ℕ) {n : ℕ} → tailOf xs ≡ n → framesEnd xs ≡ ending (cond (ltb 0 n) Cut Whole) n
+pub end-by : (xs : List ℕ) {n : ℕ} → tailOf xs ≡ n → framesEnd xs ≡ ending (cond (ltb 0 n) Cut Whole) n
 unfolding framesEnd
 end-by xs e = ap (λ (n : ℕ). ending (cond (ltb 0 n) Cut Whole) n) e
 
-end-whole : (xs : List ℕ) → 2 + bodyLength xs ≤ length xs → framesEnd xs ≡ framesEnd (drop (2 + bodyLength xs) xs)
+pub end-whole : (xs : List ℕ) → 2 + bodyLength xs ≤ length xs → framesEnd xs ≡ framesEnd (drop (2 + bodyLength xs) xs)
 unfolding framesEnd
 end-whole xs h = end-by xs (tail-whole xs h)
 

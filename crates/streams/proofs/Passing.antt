@@ -59,7 +59,7 @@ going-start asked stage input before alive =
     }
 
 -- the last line is no longer than the longest, and its newline
-last-short : (next : Next) → length (lastLine next) ≤ longestLine + 1
+pub last-short : (next : Next) → length (lastLine next) ≤ longestLine + 1
 unfolding lastLine
 last-short Full = lit≤ tt
 last-short Read = lit≤ tt

@@ -129,7 +129,7 @@ module _ (xs : List ℕ) where
         few = λ z. absurd (omega arith);
       }
 
-refused-once : (answer : ℕ) → refusedBy answer ≤ 1
+pub refused-once : (answer : ℕ) → refusedBy answer ≤ 1
 refused-once answer = cond-by (λ (n : ℕ). n ≤ 1) (eqb answer 0) (λ e. lit≤ tt) (λ e. lit≤ tt)
 
 pub bounded : (asked : Asked) (stage : Stage) (xs : List ℕ) → Alive stage → Bounded (stepped asked stage xs) xs

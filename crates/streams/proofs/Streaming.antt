@@ -80,7 +80,7 @@ module _ (xs ys : List ℕ) (h : 2 + bodyLength xs ≤ length xs) where
 
 module _ (asked : Asked) (xs : List ℕ) where
   -- the lines of part of a frame
-  lines-part : length xs < 2 + bodyLength xs → linesOf asked xs ≡ when (ltb 0 (length xs)) cutLine
+  pub lines-part : length xs < 2 + bodyLength xs → linesOf asked xs ≡ when (ltb 0 (length xs)) cutLine
   lines-part h = cond-by (λ (t : List ℕ). linesOf asked xs ≡ t) (ltb 0 (length xs)) some none
     where
       cut : isWhole xs ≡ false
@@ -95,7 +95,7 @@ module _ (asked : Asked) (xs : List ℕ) where
       none e = ap (linesOf asked) (drop-of-length-le xs {i = 0} (ltb-false 0 (length xs) e)) ∙ lines-none asked
 
   -- the lines of a whole frame, and of what comes after it
-  lines-whole : 2 + bodyLength xs ≤ length xs → linesOf asked xs ≡ recordLine asked (bodyOf xs) ++ linesOf asked (drop (2 + bodyLength xs) xs)
+  pub lines-whole : 2 + bodyLength xs ≤ length xs → linesOf asked xs ≡ recordLine asked (bodyOf xs) ++ linesOf asked (drop (2 + bodyLength xs) xs)
   lines-whole h =
       lines-some asked xs (omega arith)
       ∙ rw (front-whole asked xs (all-whole xs h), size-whole xs (all-whole xs h))

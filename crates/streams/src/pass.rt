@@ -37,7 +37,8 @@ fn next_at(ended: bool, stage: Stage, held: usize) -> Next
     }
 }
 
-fn put_last(text: &mut [u8], out: usize, next: Next) -> usize
+// The last line, where there is one.
+pub fn put_last(text: &mut [u8], out: usize, next: Next) -> usize
     requires { ⌜ out + longestLine + 1 ≤ length (now text) ⌝ }
     ensures { λ r. ⌜ Put (now (text .entry)) out (lastLine next) r (now (text .exit)) ⌝ }
 {

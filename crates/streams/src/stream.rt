@@ -81,7 +81,7 @@ fn step_skip(left: usize, size: usize, input: &[u8], text: &mut [u8], out: usize
 }
 
 // A frame is refused, or not, by its record's answer.
-fn refused_by(number: u8) -> usize
+pub fn refused_by(number: u8) -> usize
     ensures { λ r. ⌜ r ≡ refusedBy number ⌝ }
 {
     if number == PRINTED { 0 } else { 1 }
