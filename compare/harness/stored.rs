@@ -1,13 +1,16 @@
 //! `stored FOLDER`: writes FOLDER/list_crate and FOLDER/list_straight, each with the files `stdin` and
-//! `stdout` that the gate runs a listing program on. `stored FOLDER check`: says whether the files
-//! there are these.
+//! `stdout` that the gate runs a listing program on, and the same for where_crate and where_straight.
+//! `stored FOLDER check`: says whether the files there are these.
 //!
 //! The listing, in order: document 01's lines; three records of each opcode that keep the rules;
 //! 6,000 records of the generator with seed 154; frames up to the longest, which is longer than the
 //! programs' buffer; a few records behind them; and an end inside a frame, which prints `; cut`.
+//! For where_crate and where_straight, whose text has each body too: document 01's lines; bodies of
+//! 0 to 81 bytes; the longest, and one nearly so, with records between them; and such an end.
 
 use oracle::{line_into, listing_into, Record, Sink, Slot};
 use records::Random;
+use std::fmt::Write;
 use std::path::Path;
 
 mod rows;
@@ -25,16 +28,51 @@ fn main() {
     let listing = listing();
     let mut same = true;
     for (mode, program) in [(0, "list_crate"), (1, "list_straight")] {
-        let mut text = Sink::default();
-        listing_into(&listing, mode, &mut text).expect("000 prints what document 01 accepts");
-        let place = Path::new(folder).join(program);
-        for (file, bytes) in [("stdin", &listing), ("stdout", &text.0)] {
-            same &= store(&place.join(file), bytes, check);
-        }
-        summary(&text.0, mode);
+        let text = lines(&listing, mode);
+        same &= store_run(&Path::new(folder).join(program), check, &listing, &text);
+        summary(&text, mode);
+    }
+    let listing = located_listing();
+    for (mode, program) in [(0, "where_crate"), (1, "where_straight")] {
+        same &= store_run(&Path::new(folder).join(program), check, &listing, &located(&listing, mode));
     }
     same &= store(&Path::new(folder).join("printed").join("rows.txt"), rows::text().as_bytes(), check);
     std::process::exit(if same { 0 } else { 1 })
+}
+
+/// The lines of a listing, by the oracle.
+fn lines(listing: &[u8], mode: u32) -> Vec<u8> {
+    let mut text = Sink::default();
+    listing_into(listing, mode, &mut text).expect("000 prints what document 01 accepts");
+    text.0
+}
+
+/// The same lines, each with the place of its record before it and its body after it.
+fn located(listing: &[u8], mode: u32) -> Vec<u8> {
+    let mut text = String::new();
+    let mut at = 1;
+    for (number, line) in String::from_utf8(lines(listing, mode)).expect("lines are letters").lines().enumerate() {
+        if line == "; cut" {
+            text.push_str("; cut\n");
+            break;
+        }
+        let end = at + 2 + u16::from_be_bytes([listing[at], listing[at + 1]]) as usize;
+        let body = &listing[at + 2..end];
+        write!(text, "; record {number} at byte {at}\n{line} ;").expect("a text grows");
+        for (i, byte) in body.iter().enumerate() {
+            let before = if i > 0 && i % 40 == 0 { "\n; + " } else { " " };
+            write!(text, "{before}{byte:02X}").expect("a text grows");
+        }
+        text.push_str(if body.is_empty() { " empty\n" } else { "\n" });
+        at = end;
+    }
+    text.into_bytes()
+}
+
+/// Writes what a program is run on, or says whether what is there is the same.
+fn store_run(place: &Path, check: bool, listing: &[u8], text: &[u8]) -> bool {
+    let stdin = store(&place.join("stdin"), listing, check);
+    store(&place.join("stdout"), text, check) && stdin
 }
 
 /// Writes a file, or says whether it is there as it would be written.
@@ -79,12 +117,28 @@ fn listing() -> Vec<u8> {
         bodies.push(body);
         bodies.extend_from_slice(&some);
     }
+    framed(&bodies)
+}
+
+fn located_listing() -> Vec<u8> {
+    let some = documented();
+    let mut bodies = some.clone();
+    for length in (0..82).chain([65_535, 65_000]) {
+        bodies.push((0..length).map(|i| (i * 7 % 251) as u8).collect());
+        if length > 80 {
+            bodies.extend_from_slice(&some);
+        }
+    }
+    framed(&bodies)
+}
+
+/// A listing of these bodies that ends inside a frame: one of nineteen bytes that has seven.
+fn framed(bodies: &[Vec<u8>]) -> Vec<u8> {
     let mut listing = vec![1];
-    for body in &bodies {
+    for body in bodies {
         listing.extend((body.len() as u16).to_be_bytes());
         listing.extend_from_slice(body);
     }
-    // the end: a frame of nineteen bytes that has seven
     listing.extend([0, 19, 0, 0, 0, 5, 0, 0, 0]);
     listing
 }

@@ -1,5 +1,6 @@
 // From standard input to standard output, through one buffer of 64 KiB for what is read and one for what is written. All that
-// matters is `streams::pass::pass`; here are the calls of the system, of which no contract can speak.
+// matters is `streams::pass::pass`; here are the calls of the system, of which no contract can speak. `locate` is the same over
+// `located::pass::pass`, through larger buffers.
 ghost use mathlib.Core.Path.{_≡_};
 ghost use Prim.Native.Nat.{_+_, _-_, _^_, _≤_, _<_, min};
 ghost use lib.ListN.{length, take, drop};
@@ -20,6 +21,8 @@ use records::Asked;
 use streams::Next;
 use streams::Passed;
 use streams::Stage;
+
+pub mod locate;
 
 // A pass, and whether its lines could be written.
 pub struct Turn {
@@ -154,7 +157,37 @@ pub struct State {
     pub end: End,
 }
 
+// After a read: how many bytes are held, from the start of the buffer on, whether the input has ended, and how the run stands.
+pub struct Filled {
+    pub have: usize,
+    pub ended: bool,
+    pub end: End,
+}
+
 // More bytes, after those that are held, which move to the front.
+fn refill(from: usize, have: usize, input: &mut [u8]) -> Filled
+    requires { ⌜ (from ≤ have) × (have ≤ length (now input)) ⌝ }
+    requires { ⌜ have - from < length (now input) ⌝ }
+    ensures { λ r. ⌜ (have - from ≤ r .have) × (r .have ≤ length (now (input .entry))) ⌝ }
+    ensures { λ _. ⌜ take (have - from) (now (input .exit)) ≡ drop from (take have (now (input .entry))) ⌝ }
+{
+    move_down(input, from, have);
+    let held = have - from;
+    let got = read_more(input, held);
+    if got.failed {
+        return Filled {
+            have: held,
+            ended: true,
+            end: End::ReadFailed,
+        };
+    }
+    Filled {
+        have: held + got.count,
+        ended: got.count == 0,
+        end: End::More,
+    }
+}
+
 fn refilled(stage: Stage, from: usize, have: usize, tally: Tally, input: &mut [u8]) -> State
     requires { ⌜ (from ≤ have) × (have ≤ length (now input)) ⌝ }
     requires { ⌜ have - from < length (now input) ⌝ }
@@ -164,26 +197,15 @@ fn refilled(stage: Stage, from: usize, have: usize, tally: Tally, input: &mut [u
     ensures { λ r. ⌜ (r .from ≡ 0) × (have - from ≤ r .have) ⌝ }
     ensures { λ _. ⌜ take (have - from) (now (input .exit)) ≡ drop from (take have (now (input .entry))) ⌝ }
 {
-    move_down(input, from, have);
-    let held = have - from;
-    let got = read_more(input, held);
-    if got.failed {
-        return State {
-            stage,
-            from: 0,
-            have: held,
-            ended: true,
-            tally,
-            end: End::ReadFailed,
-        };
-    }
+    let filled = refill(from, have, input);
+    let end = filled.end;
     State {
         stage,
         from: 0,
-        have: held + got.count,
-        ended: got.count == 0,
+        have: filled.have,
+        ended: filled.ended,
         tally,
-        end: End::More,
+        end,
     }
 }
 
@@ -287,13 +309,8 @@ fn round_of(
     }
 }
 
-// The last words, on standard error: what was counted, and how the run ended.
-fn report(last: State)
-    requires { ⌜ Alive (last .stage) ⌝ }
-{
-    let stage = last.stage;
-    let tally = last.tally;
-    let end = last.end;
+// The last words, on standard error: what was counted, and how the run ended. `cut` is where the frame begins that is cut.
+fn report(tally: Tally, end: End, cut: u64) {
     io::write_all(STDERR_FILENO, b"list: ");
     io::print_decimal(STDERR_FILENO, tally.records);
     io::write_all(STDERR_FILENO, b" records, ");
@@ -306,10 +323,7 @@ fn report(last: State)
         }
         End::Cut => {
             io::write_all(STDERR_FILENO, b"cut at byte ");
-            io::print_decimal(
-                STDERR_FILENO,
-                less(tally.used, streams::stream::begun(stage)),
-            );
+            io::print_decimal(STDERR_FILENO, cut);
             io::write_all(STDERR_FILENO, b"\n");
         }
         End::Unknown => {
@@ -369,7 +383,9 @@ pub fn run(mode: u32) {
         if let End::More = end {
             state = last;
         } else {
-            report(last);
+            let stage = last.stage;
+            let tally = last.tally;
+            report(tally, end, less(tally.used, streams::stream::begun(stage)));
             return;
         }
     }

@@ -1,44 +1,19 @@
--- `stdio::refilled` meets its contract: the bytes that are held stand in front, before those that came.
+-- `stdio::refilled` meets its contract: `refill`'s.
 -- Assumes nothing.
-use mathlib.Core.Path.{refl, _∙_}
+use mathlib.Core.Path.{refl}
 use native.Mathlib.Omega.{arith}
 use borrow.Author.Needs.{needs}
 use Rattle.stdio.proofs.refilled.Statement.{statement}
 use Rattle.stdio.proofs.refilled.Tie as tie
 
-move-down-requires : tie.Need-move-down-requires
-move-down-requires c κs = search needs
-
-sub-held : tie.Need-sub-held
-sub-held c = search needs
-
-read-more-requires : tie.Need-read-more-requires
-read-more-requires c κs = search needs
+refill-requires : tie.Need-refill-requires
+refill-requires c κs = search needs
 
 same-length : tie.Need-same-length
 same-length c = search needs
 
 returns : tie.Need-returns
-returns c = ((omega arith, omega (arith, (c .before .before .before .before .before .before .before .before .before .before .pre) .0 .0, (c .before .before .before .before .before .before .before .before .before .before .pre) .0 .1)), ((c .before .before .before .before .before .before .before .before .before .before .pre) .1 .1, ((refl, omega arith), (c .before .before .before .read-more) .ensures .1 ∙ (c .before .before .before .before .before .before .before .move-down) .ensures .1)))
-
-add-t15 : tie.Need-add-t15
-add-t15 c = search needs
-
-same-length-2 : tie.Need-same-length-2
-same-length-2 c = search needs
-
-returns-2 : tie.Need-returns-2
-returns-2 c = ((omega arith, omega (arith, (c .before .before .before .before .before .read-more) .ensures .0, (c .before .before .before .before .before .before .before .before .before .move-down) .ensures .0)), ((c .before .before .before .before .before .before .before .before .before .before .before .before .pre) .1 .1, ((refl, omega arith), (c .before .before .before .before .before .read-more) .ensures .1 ∙ (c .before .before .before .before .before .before .before .before .before .move-down) .ensures .1)))
+returns c = ((omega arith, (c .before .before .refill .ensures .0 .1)), ((c .before .before .before .before .before .pre .1 .1), ((refl, (c .before .before .refill .ensures .0 .0)), (c .before .before .refill .ensures .1))))
 
 pub refilled-spec : {M : Type 1} → statement M
-refilled-spec =
-    tie.close
-    (tie.spec
-    move-down-requires
-    sub-held
-    read-more-requires
-    same-length
-    returns
-    add-t15
-    same-length-2
-    returns-2)
+refilled-spec = tie.close (tie.spec refill-requires same-length returns)

@@ -79,8 +79,14 @@ loop-less c = omega arith
 loop-again : tie.Need-loop-again Inv-loop μ-loop
 loop-again c = (((c .before .before .before .before .round-of) .ensures .0 .0, omega (arith, (c .before .before .before .before .round-of) .ensures .0 .1, (c .before .before .before .before .before .before .before .before .before .before .before .before .before .before .before .loop) .inv .1 .1 .0)), ((c .before .before .before .before .round-of) .ensures .1, ((c .before .before .before .before .round-of) .kept .1 .1 .1 .1 .1 .1 .1 .1 .0 ∙ (c .before .before .before .before .before .before .before .before .before .before .before .before .before .before .before .loop) .inv .1 .1 .0, (c .before .before .before .before .round-of) .kept .1 .1 .1 .1 .1 .1 .1 .1 .1 .1 .0 ∙ (c .before .before .before .before .before .before .before .before .before .before .before .before .before .before .before .loop) .inv .1 .1 .1)))
 
+begun-requires : tie.Need-begun-requires Inv-loop μ-loop
+begun-requires c κs = (c .before .before .before .before .round-of) .ensures .1
+
+less-requires : tie.Need-less-requires Inv-loop μ-loop
+less-requires c κs = search needs
+
 report-requires : tie.Need-report-requires Inv-loop μ-loop
-report-requires c κs = (c .before .before .before .round-of) .ensures .1
+report-requires c κs = search needs
 
 returns : tie.Need-returns Inv-loop μ-loop
 returns c = search needs
@@ -110,6 +116,8 @@ run-spec =
     enum-told
     loop-less
     loop-again
+    begun-requires
+    less-requires
     report-requires
     returns
     returns-2)
