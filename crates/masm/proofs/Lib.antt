@@ -5,6 +5,7 @@ pub mod Choices
 pub mod Distinct
 pub mod Stored
 pub mod Tokens
+pub mod Comments
 pub mod Numerals
 pub mod Expressions
 pub mod Texts

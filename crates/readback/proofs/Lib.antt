@@ -18,3 +18,6 @@ pub mod OneByOne
 pub mod Listings
 pub mod Streams
 pub mod Readings
+pub mod Unbroken
+pub mod Located
+pub mod LineLengths

@@ -4,3 +4,4 @@ pub mod Printed
 pub mod Targets
 pub mod Listings
 pub mod Lines
+pub mod Located
