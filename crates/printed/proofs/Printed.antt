@@ -4,7 +4,7 @@ use mathlib.Core.Path.{_≡_, refl}
 use mathlib.Core.List.{List, [], _∷_, _++_, map}
 use Prim.Native.Nat.{ℕ}
 use Rattle.answers.specs.Refusals.{Refusal}
-use Rattle.answers.specs.Lines.{refusedLine}
+use Rattle.answers.specs.Lines.{refusedText, refusedLine}
 use Rattle.bodies.specs.Refusals.{lengthRefused, segmentKept, firstKept, secondKept, scaleKept, operandRefused, fieldRefused}
 use Rattle.bodies.specs.Decoding.{immediate, dispIn, addressOf, operandOf, operandAt, instructionOf}
 use Rattle.branches.specs.Sums.{signed, branchSum, branchShown}
@@ -61,7 +61,7 @@ wantedIn r mode = wanted (r .said)
 
 -- all rows at once
 computed : map (λ (r : Row). map (foundIn r) (r .modes)) t.computed ≡ map (λ (r : Row). map (wantedIn r) (r .modes)) t.computed
-unfolding t.computed branchRows generalRows nameRows armRows refusalRows listingRows refusals listingRefusals listingText linesOf linesWithin frontLine recordLine refusedLine recordText lineAt lengthRefused fieldRefused operandRefused segmentKept firstKept secondKept scaleKept shapeRefused sizeRefused armOf arms opcodes instructionOf operandAt operandOf immediate dispIn addressOf planOf spread general generalLabel sizeLabel lssLabel tbyteLabel labelAt operandShown itemAt itemsAt signed branchSum branchShown headOf digit digits placesFrom places figure numeral displacement absolute mnemonics mnemonic registers registerName segments segmentName labels labelWord labelText segmentText baseText scaleText indexedText indexText tailText bracketText absoluteText branchText shownText itemText repsText prefixesText nameText headText partedText itemsText lineText
+unfolding t.computed branchRows generalRows nameRows armRows refusalRows listingRows refusals listingRefusals listingText linesOf linesWithin frontLine recordLine refusedText refusedLine recordText lineAt lengthRefused fieldRefused operandRefused segmentKept firstKept secondKept scaleKept shapeRefused sizeRefused armOf arms opcodes instructionOf operandAt operandOf immediate dispIn addressOf planOf spread general generalLabel sizeLabel lssLabel tbyteLabel labelAt operandShown itemAt itemsAt signed branchSum branchShown headOf digit digits placesFrom places figure numeral displacement absolute mnemonics mnemonic registers registerName segments segmentName labels labelWord labelText segmentText baseText scaleText indexedText indexText tailText bracketText absoluteText branchText shownText itemText repsText prefixesText nameText headText partedText itemsText lineText
 computed = refl
 
 -- what is found in one of its modes is what the row says there
