@@ -10,7 +10,7 @@ use lib.Dec.{T, eqb, ltb}
 use borrow.Author.Tests.{eq-eqb, ne-eqb, ltb-true, eqb-false, not-true}
 use Rattle.text.specs.Words.{every}
 use Rattle.text.proofs.Tables.{both-left, both-right, so}
-use Rattle.answers.specs.Refusals.{Refusal, refusal, answerOf, First, here, later, None, Numbered, ascending, applies, Lowest}
+use Rattle.answers.specs.Refusals.{Refusal, refusal, answerOf, First, here, later, None, NeverZero, ascending, applies, Lowest}
 
 -- a test is one of two
 two : (b : Bool) → (b ≡ true) ⊎ (b ≡ false)
@@ -38,11 +38,11 @@ first-answer (here e) = rw e
 first-answer (later e f) = rw e (first-answer f)
 
 -- a refusal's number is not 0
-pub first-some : {rs : List Refusal} {k : ℕ} → Numbered rs → First rs k → 0 < k
+pub first-some : {rs : List Refusal} {k : ℕ} → NeverZero rs → First rs k → 0 < k
 first-some n (here e) = n .0
 first-some n (later e f) = first-some (n .1) f
 
-pub none-or-answer : (rs : List Refusal) → Numbered rs → answerOf rs ≡ 0 → None rs
+pub none-or-answer : (rs : List Refusal) → NeverZero rs → answerOf rs ≡ 0 → None rs
 none-or-answer rs numbered e = go (first-or-none rs)
   where
     go : First rs (answerOf rs) ⊎ None rs → None rs
@@ -50,14 +50,14 @@ none-or-answer rs numbered e = go (first-or-none rs)
     go (inr n) = n
 
 -- `answerOf` answers by the table's rules
-pub refused-as : (rs : List Refusal) → Numbered rs → (k : ℕ) → 0 < k → (answerOf rs ≡ k) ↔ First rs k
+pub refused-as : (rs : List Refusal) → NeverZero rs → (k : ℕ) → 0 < k → (answerOf rs ≡ k) ↔ First rs k
 refused-as rs numbered k h = (λ e. there e (first-or-none rs), λ f. first-answer f)
   where
     there : answerOf rs ≡ k → First rs (answerOf rs) ⊎ None rs → First rs k
     there e (inl f) = subst (First rs) e f
     there e (inr n) = absurd (omega (arith, none-answer rs n, e))
 
-pub printed-as : (rs : List Refusal) → Numbered rs → (answerOf rs ≡ 0) ↔ None rs
+pub printed-as : (rs : List Refusal) → NeverZero rs → (answerOf rs ≡ 0) ↔ None rs
 printed-as rs numbered = (none-or-answer rs numbered, none-answer rs)
 
 -- two lists, one after the other
@@ -65,7 +65,7 @@ append-by : (b : Bool) (n x y z : ℕ) → 0 < n → cond b n x ≡ 0 → (x ≡
 append-by true n x y z some e more = absurd (omega (arith, some, e))
 append-by false n x y z some e more = more e
 
-pub answer-append : (rs ss : List Refusal) → Numbered rs → answerOf rs ≡ 0 → answerOf (rs ++ ss) ≡ answerOf ss
+pub answer-append : (rs ss : List Refusal) → NeverZero rs → answerOf rs ≡ 0 → answerOf (rs ++ ss) ≡ answerOf ss
 answer-append [] ss numbered e = refl
 answer-append (r ∷ rs) ss numbered e = append-by (r .applies) (r .number) (answerOf rs) (answerOf (rs ++ ss)) (answerOf ss) (numbered .0) e (answer-append rs ss (numbered .1))
 
@@ -144,11 +144,11 @@ ascending-lowest rs up k = (first-lowest up, λ low. there low (first-or-none rs
     there low (inr n) = absurd (true≢false (sym (low .own) ∙ none-applies rs k n))
 
 -- What every number of a list passes as one computed test, its answer passes.
-pub numbered-by : (rs : List Refusal) → T (every (λ (r : Refusal). ltb 0 (r .number)) rs) → Numbered rs
-numbered-by [] t = tt
-numbered-by (r ∷ rs) t =
+pub never-zero-by : (rs : List Refusal) → T (every (λ (r : Refusal). ltb 0 (r .number)) rs) → NeverZero rs
+never-zero-by [] t = tt
+never-zero-by (r ∷ rs) t =
     let f : Refusal → Bool = λ (s : Refusal). ltb 0 (s .number) in
-    (ltb-true 0 (r .number) (so (f r) (both-left (f r) (every f rs) t)), numbered-by rs (both-right (f r) (every f rs) t))
+    (ltb-true 0 (r .number) (so (f r) (both-left (f r) (every f rs) t)), never-zero-by rs (both-right (f r) (every f rs) t))
 
 below-by : (b : Bool) (m x n : ℕ) → m < n → x < n → cond b m x < n
 below-by true m x n h l = h

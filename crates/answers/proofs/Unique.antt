@@ -12,7 +12,7 @@ use borrow.Author.Tests.{ne-eqb, ltb-false}
 use lib.ListN.{length, take, drop, take-append-drop}
 use Rattle.text.specs.Write.{write}
 use Rattle.text.proofs.Writing.{take-write, drop-write, length-write}
-use Rattle.answers.specs.Refusals.{Refusal, refusal, room, answerOf, None, Numbered}
+use Rattle.answers.specs.Refusals.{Refusal, refusal, room, answerOf, None, NeverZero}
 use Rattle.answers.specs.Outcomes.{roomRefused, lengthWith, bufferAfter, outcomeOf, withRoom}
 use Rattle.answers.specs.Table.{Answered}
 use Rattle.answers.proofs.Firsts.{refused-as, printed-as, none-or-answer}
@@ -65,7 +65,7 @@ same-or-other j k =
     ]
 
 -- the outcome meets the table, where a text that nothing refuses has room
-pub meets : (rs : List Refusal) (text before : List ℕ) → Numbered rs → (answerOf rs ≡ 0 → length text ≤ length before) → let o = outcomeOf (answerOf rs) text before in Answered rs text before (o .answer) (o .length) (o .buffer)
+pub meets : (rs : List Refusal) (text before : List ℕ) → NeverZero rs → (answerOf rs ≡ 0 → length text ≤ length before) → let o = outcomeOf (answerOf rs) text before in Answered rs text before (o .answer) (o .length) (o .buffer)
 unfolding outcomeOf
 meets rs text before numbered fits =
     record {
@@ -81,7 +81,7 @@ meets rs text before numbered fits =
     }
 
 -- what meets the table is the outcome
-module _ {rs : List Refusal} (numbered : Numbered rs) {text before : List ℕ} {answer n : ℕ} {after : List ℕ} (met : Answered rs text before answer n after) where
+module _ {rs : List Refusal} (numbered : NeverZero rs) {text before : List ℕ} {answer n : ℕ} {after : List ℕ} (met : Answered rs text before answer n after) where
   answer-by : (answer ≡ 0) ⊎ (0 < answer) → answer ≡ answerOf rs
   answer-by (inl e) = e ∙ sym (printed-as rs numbered .1 (met .printed .0 e))
   answer-by (inr least) = sym (refused-as rs numbered answer least .1 (met .refused answer least .0 refl))
@@ -111,24 +111,24 @@ module _ {rs : List Refusal} (numbered : Numbered rs) {text before : List ℕ} {
       )
 
 -- so any two that meet it are the same
-pub unique : {rs : List Refusal} {text before : List ℕ} {answer n : ℕ} {after : List ℕ} {answer′ n′ : ℕ} {after′ : List ℕ} → Numbered rs → Answered rs text before answer n after → Answered rs text before answer′ n′ after′ → (answer ≡ answer′) × (n ≡ n′) × (after ≡ after′)
+pub unique : {rs : List Refusal} {text before : List ℕ} {answer n : ℕ} {after : List ℕ} {answer′ n′ : ℕ} {after′ : List ℕ} → NeverZero rs → Answered rs text before answer n after → Answered rs text before answer′ n′ after′ → (answer ≡ answer′) × (n ≡ n′) × (after ≡ after′)
 unique numbered one two =
     let a = only numbered one in
     let b = only numbered two in
     (a .0 ∙ sym (b .0), a .1 ∙ sym (b .1), a .2 ∙ sym (b .2))
 
 -- refusals of an entry point's own, and last the room of its text
-numbered-last : (rs : List Refusal) (b : Bool) → Numbered rs → Numbered (rs ++ (refusal room b ∷ []))
-numbered-last [] b n = (omega arith, tt)
-numbered-last (r ∷ rs) b n = (n .0, numbered-last rs b (n .1))
+never-zero-last : (rs : List Refusal) (b : Bool) → NeverZero rs → NeverZero (rs ++ (refusal room b ∷ []))
+never-zero-last [] b n = (omega arith, tt)
+never-zero-last (r ∷ rs) b n = (n .0, never-zero-last rs b (n .1))
 
 last-none : (rs : List Refusal) {b : Bool} → None (rs ++ (refusal room b ∷ [])) → b ≡ false
 last-none [] n = n .0
 last-none (r ∷ rs) n = last-none rs (n .1)
 
-module _ (rs : List Refusal) (numbered : Numbered rs) (text buf : List ℕ) where
-  pub room-numbered : Numbered (withRoom rs text buf)
-  room-numbered = numbered-last rs (roomRefused text buf) numbered
+module _ (rs : List Refusal) (numbered : NeverZero rs) (text buf : List ℕ) where
+  pub room-numbered : NeverZero (withRoom rs text buf)
+  room-numbered = never-zero-last rs (roomRefused text buf) numbered
 
   fits : answerOf (withRoom rs text buf) ≡ 0 → length text ≤ length buf
   fits e = ltb-false (length buf) (length text) (last-none rs (none-or-answer (withRoom rs text buf) room-numbered e))

@@ -48,9 +48,9 @@ None [] = Unit {0}
 None (r ∷ rs) = (r .applies ≡ false) × None rs
 
 -- a refusal's number is never 0, which is the answer of what is printed
-abbrev pub Numbered : List Refusal → Type 0
-Numbered [] = Unit {0}
-Numbered (r ∷ rs) = (0 < r .number) × Numbered rs
+abbrev pub NeverZero : List Refusal → Type 0
+NeverZero [] = Unit {0}
+NeverZero (r ∷ rs) = (0 < r .number) × NeverZero rs
 
 -- the numbers stand in this order, each below the next
 abbrev pub ascending : List Refusal → Bool

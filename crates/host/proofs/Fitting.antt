@@ -17,7 +17,7 @@ use Rattle.records.proofs.Texts as records
 use Rattle.frames.specs.Frames.{knownVersion}
 use Rattle.listings.specs.Lines.{listingText}
 use Rattle.listings.specs.Listings.{sizeLimit, listingRefusals, listingOutcome}
-use Rattle.listings.proofs.Following.{lines-short}
+use Rattle.listings.proofs.LineLaws.{lines-short}
 
 length-most : (a : ℕ) (t : List ℕ) → lengthWith a t ≤ length t
 length-most a t = cond-most (eqb a 0 || eqb a room) (length t)

@@ -22,7 +22,7 @@ use Rattle.records.proofs.Texts.{alone-short}
 use Rattle.records.proofs.Empty.{empty-text}
 use Rattle.listings.specs.Lines.{cutLine, frontLine, linesOf}
 use Rattle.listings.specs.Code.{standsAt, frontOf, sizeOf, allOf}
-use Rattle.listings.proofs.Following.{frame-some, frame-within, lines-none, lines-some, front-most}
+use Rattle.listings.proofs.LineLaws.{frame-some, frame-within, lines-none, lines-some, front-most}
 
 pub front-whole : (asked : Asked) (xs : List ℕ) → isWhole xs ≡ true → frontLine asked xs ≡ recordLine asked (bodyOf xs)
 unfolding frontLine

@@ -1,4 +1,4 @@
-pub mod Following
+pub mod LineLaws
 pub mod Fronts
 pub mod Walking
 pub mod Outcomes

@@ -22,7 +22,7 @@ use Rattle.listings.specs.Listings.{sizeLimit}
 use Rattle.listings.specs.declared.Next.{Next}
 use Rattle.listings.specs.declared.Walked.{Walked}
 use Rattle.listings.specs.Code.{frontOf, sizeOf, allOf, startOf, wholeText, placeOf, Stepped, Walkable, Walks}
-use Rattle.listings.proofs.Following.{lines-short}
+use Rattle.listings.proofs.LineLaws.{lines-short}
 use Rattle.listings.proofs.Fronts.{size-some, size-within, front-of-most, all-none, all-some}
 
 module _ (alone : Bool) (asked : Asked) (xs : List ℕ) where

@@ -28,7 +28,7 @@ use Rattle.located.specs.Parts.{recordPart, longestPart}
 use Rattle.located.specs.Located.{wrapped, partsOf, locatedText}
 use Rattle.located.specs.Pass.{saying, counting, one, refusedOne, endOf, Goes, Unused}
 use Rattle.located.specs.Code.{Says, Steps}
-use Rattle.located.proofs.Following.{parts-whole}
+use Rattle.located.proofs.PartLaws.{parts-whole}
 
 pub goes-none : {asked : Asked} {stage : Stage} {held : List ℕ} → Goes asked stage held [] stage held 0 0
 goes-none = record { said = λ more. refl; frames = λ more. omega arith; refusals = λ more. omega arith; end = λ more. refl }

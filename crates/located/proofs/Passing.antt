@@ -36,7 +36,7 @@ pub record Going (asked : Asked) (start : Stage) (input before : List ℕ) (stag
   pub refuses : refused ≤ records
   pub said : out ≤ longestPart * at
   pub fits : out ≤ length before
-  pub kept : length text ≡ length before
+  pub same-length : length text ≡ length before
 
 pub going-start : (asked : Asked) (stage : Stage) (input before : List ℕ) → Going asked stage input before stage 0 0 0 0 before
 going-start asked stage input before =
@@ -49,7 +49,7 @@ going-start asked stage input before =
       refuses = lit≤ tt;
       said = lit≤ tt;
       fits = omega arith;
-      kept = refl;
+      same-length = refl;
     }
 
 module _ {asked : Asked} {start : Stage} {input before : List ℕ} {stage : Stage} {at out records refused : ℕ} {text : List ℕ} (g : Going asked start input before stage at out records refused text) where
@@ -70,7 +70,7 @@ module _ {asked : Asked} {start : Stage} {input before : List ℕ} {stage : Stag
     module _ (room : out + longestPart ≤ length text) where
       says-room : Room before 0 (g .says ++ same .says)
       says-room =
-          record { fits = omega (arith, length-append (g .says) (same .says), g .put .next, same .short, g .kept, room) }
+          record { fits = omega (arith, length-append (g .says) (same .says), g .put .next, same .short, g .same-length, room) }
 
       goes-on : Goes asked start input (g .says ++ same .says) (r .stage) (drop (at + r .used) input) (records + r .records) (refused + r .refused)
       goes-on = rw (← (drop-drop (r .used) at input)) (goes-then (g .goes) (same .goes))
@@ -88,7 +88,7 @@ module _ {asked : Asked} {start : Stage} {input before : List ℕ} {stage : Stag
             refuses = refuses-within;
             said = omega (arith, same .put .next, same .short, g .said, some);
             fits = omega (arith, both .next, says-room .fits);
-            kept = put-length says-room both;
+            same-length = put-length says-room both;
           }
 
     -- a step that uses nothing says nothing
@@ -107,17 +107,17 @@ module _ {asked : Asked} {start : Stage} {input before : List ℕ} {stage : Stag
         says = g .says;
         goes = g .goes;
         text = put-front (omega (arith, g .put .next, g .fits)) (g .put) ∙ sym (append-nil (g .says));
-        fits = omega (arith, g .fits, g .kept);
+        fits = omega (arith, g .fits, g .same-length);
         within = g .within;
         counted = (g .refuses, g .counts);
-        follows = full refl (omega (arith, none-left, room, g .kept, g .said));
+        follows = full refl (omega (arith, none-left, room, g .same-length, g .said));
       }
 
   -- the bytes that are held are not enough for a step
   module _ {r : Step} {after : List ℕ} (room : out + longestPart ≤ length text) (took : Steps asked stage (take (length input - at) (drop at input)) text out r after) (unused : r .used ≡ 0) where
     last-room : (next : Next) → Room before 0 (g .says ++ lastLine next)
     last-room next =
-        record { fits = omega (arith, length-append (g .says) (lastLine next), last-short next, g .put .next, g .kept, room) }
+        record { fits = omega (arith, length-append (g .says) (lastLine next), last-short next, g .put .next, g .same-length, room) }
 
     pub passes-rest : {ended : Bool} {next : Next} {end : ℕ} {last : List ℕ} → next ≡ nextAt ended stage (length input - at) → Put after out (lastLine next) end last → Passes asked start input ended (record { stage = stage; used = at; out = end; records = records; refused = refused; next = next }) last
     passes-rest {ended} {next} {end} {last} by put =

@@ -26,7 +26,7 @@ use Rattle.located.specs.Pass.{saying, counting, one, refusedOne, endOf,
 use Rattle.located.specs.Pass.Follows.{full as is-full, rests}
 use Rattle.located.specs.Runs.{Runs}
 use Rattle.located.specs.Runs.Runs.{full as run-full, more as run-more, none as run-none, stop}
-use Rattle.located.proofs.Following.{parts-part}
+use Rattle.located.proofs.PartLaws.{parts-part}
 
 -- all that was to be said and counted of these bytes was; and so it ends, after so many bytes
 pub record Told (asked : Asked) (stage : Stage) (xs written : List ℕ) (records refused used : ℕ) (last : Next) : Type 0 where

@@ -19,12 +19,12 @@ pub wider : (d : ℤ) → SFits w32 d → SFits w64 d
 wider (pos n) f = record { sfits = omega (arith, f .sfits) }
 wider (negsuc n) f = record { sfits = omega (arith, f .sfits) }
 
-pub kept : (d : ℤ) → SFits w32 d → toZ w64 (ofZ w64 d) ≡ d
-kept d f = toZ-ofZ w64 d (wider d f)
+pub widened : (d : ℤ) → SFits w32 d → toZ w64 (ofZ w64 d) ≡ d
+widened d f = toZ-ofZ w64 d (wider d f)
 
 -- the opposite of such a number fits 64 bits; the least one's does not fit 32
 pub opposite-fits : (d : ℤ) → SFits w32 d → SFits w64 (pos 0 -ℤ toZ w64 (ofZ w64 d))
-opposite-fits d f = rw (kept d f) (from d f)
+opposite-fits d f = rw (widened d f) (from d f)
   where
     from : (d : ℤ) → SFits w32 d → SFits w64 (pos 0 -ℤ d)
     from (pos zero) f = record { sfits = lit< tt }

@@ -9,25 +9,25 @@ use borrow.Author.Tests.{le-ltb, lt-ltb, ltb-true, ne-eqb}
 use lib.Dec.{ltb}
 use lib.ListN as list
 use Rattle.text.specs.Words.{bytes}
-use Rattle.answers.specs.Refusals.{Refusal, Numbered, room, answerOf}
+use Rattle.answers.specs.Refusals.{Refusal, NeverZero, room, answerOf}
 use Rattle.answers.specs.Outcomes.{Outcome, outcomeOf, withRoom}
-use Rattle.answers.proofs.Firsts.{numbered-by, answer-append, answer-before}
+use Rattle.answers.proofs.Firsts.{never-zero-by, answer-append, answer-before}
 use Rattle.records.specs.declared.Asked.{Asked}
 use Rattle.records.specs.Records.{refusals, recordText, recordOutcome}
-use Rattle.records.proofs.Judging.{refusals-numbered}
+use Rattle.records.proofs.Judging.{refusals-never-zero}
 use Rattle.listings.specs.Lines.{listingText}
 use Rattle.listings.specs.Listings.{listingRefusals, listingOutcome}
-use Rattle.printed.specs.Rows.{Said, prints, answers, Printed, Answered, Says}
+use Rattle.printed.specs.Rows.{Expected, prints, answers, Printed, Answered, Says}
 
 -- the answer before there is a buffer, the text where one is said, and that an answer said is one of 1 to 5
 abbrev pub Found : Type 0
 Found = record { answer : ℕ; text : List ℕ; some : Bool; below : Bool }
 
-abbrev pub found : Said → List Refusal → List ℕ → Found
+abbrev pub found : Expected → List Refusal → List ℕ → Found
 found (prints said) rs text = record { answer = answerOf rs; text = text; some = true; below = true }
 found (answers n) rs text = record { answer = answerOf rs; text = []; some = ltb 0 n; below = ltb n room }
 
-abbrev pub wanted : Said → Found
+abbrev pub wanted : Expected → Found
 wanted (prints said) = record { answer = 0; text = bytes said; some = true; below = true }
 wanted (answers n) = record { answer = n; text = []; some = true; below = true }
 
@@ -36,7 +36,7 @@ abbrev pub by : List Refusal → List ℕ → List ℕ → Outcome
 by rs text buf = outcomeOf (answerOf (withRoom rs text buf)) text buf
 
 -- where nothing refuses, the text is printed
-printed : (rs : List Refusal) (text : List ℕ) → Numbered rs → answerOf rs ≡ 0 → Printed (by rs text) text
+printed : (rs : List Refusal) (text : List ℕ) → NeverZero rs → answerOf rs ≡ 0 → Printed (by rs text) text
 unfolding outcomeOf
 printed rs text numbered none =
     record {
@@ -51,7 +51,7 @@ answered rs text n some below e buf =
     rw (answer-before rs _ some e, ne-eqb n 0 (λ z. omega (arith, some, z)), ne-eqb n 6 (λ z. omega (arith, below, z)))
 
 -- what is found as it is said holds of every buffer
-pub says : (said : Said) (rs : List Refusal) (text : List ℕ) → Numbered rs → found said rs text ≡ wanted said → Says (by rs text) said
+pub says : (said : Expected) (rs : List Refusal) (text : List ℕ) → NeverZero rs → found said rs text ≡ wanted said → Says (by rs text) said
 says (prints said) rs text numbered e =
     let is : text ≡ bytes said = ap (λ (f : Found). f .text) e in
     rw (sym is) (printed rs text numbered (ap (λ (f : Found). f .answer) e))
@@ -60,15 +60,15 @@ says (answers n) rs text numbered e =
     (ap (λ (f : Found). f .answer) e)
 
 -- of a record
-pub record-says : (said : Said) (asked : Asked) (given : List ℕ) → found said (refusals asked given) (recordText asked given) ≡ wanted said → Says (recordOutcome asked given) said
+pub record-says : (said : Expected) (asked : Asked) (given : List ℕ) → found said (refusals asked given) (recordText asked given) ≡ wanted said → Says (recordOutcome asked given) said
 unfolding recordOutcome
-record-says said asked given e = says said (refusals asked given) (recordText asked given) (refusals-numbered asked given) e
+record-says said asked given e = says said (refusals asked given) (recordText asked given) (refusals-never-zero asked given) e
 
 -- of a listing
-listing-numbered : (asked : Asked) (given : List ℕ) → Numbered (listingRefusals asked given)
+listing-numbered : (asked : Asked) (given : List ℕ) → NeverZero (listingRefusals asked given)
 unfolding listingRefusals
-listing-numbered asked given = numbered-by (listingRefusals asked given) tt
+listing-numbered asked given = never-zero-by (listingRefusals asked given) tt
 
-pub listing-says : (said : Said) (asked : Asked) (given : List ℕ) → found said (listingRefusals asked given) (listingText asked given) ≡ wanted said → Says (listingOutcome asked given) said
+pub listing-says : (said : Expected) (asked : Asked) (given : List ℕ) → found said (listingRefusals asked given) (listingText asked given) ≡ wanted said → Says (listingOutcome asked given) said
 unfolding listingOutcome
 listing-says said asked given e = says said (listingRefusals asked given) (listingText asked given) (listing-numbered asked given) e

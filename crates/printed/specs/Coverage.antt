@@ -6,7 +6,7 @@ use Prim.Native.Nat.{ℕ, zero, suc, _+_}
 use lib.Dec.{eqb, leb}
 use lib.ListN.{length}
 use Rattle.frames.specs.Numbers.{word}
-use Rattle.printed.specs.Rows.{Entry, oneRecord, oneListing, Said, prints, answers, Row}
+use Rattle.printed.specs.Rows.{Entry, oneRecord, oneListing, Expected, prints, answers, Row}
 
 -- a number is one of these
 abbrev pub among : ℕ → List ℕ → Bool
@@ -24,7 +24,7 @@ twiceBelow zero ns = true
 twiceBelow (suc n) ns = leb 2 (times n ns) && twiceBelow n ns
 
 -- the opcode of a row whose record is printed
-abbrev pub opcodeOf : Entry → Said → List ℕ → List ℕ
+abbrev pub opcodeOf : Entry → Expected → List ℕ → List ℕ
 opcodeOf oneRecord (prints text) given = word given 0 ∷ []
 opcodeOf oneRecord (answers n) given = []
 opcodeOf oneListing (prints text) given = []
@@ -36,7 +36,7 @@ opcodesIn mode [] = []
 opcodesIn mode (r ∷ rs) = cond (among mode (r .modes)) (opcodeOf (r .entry) (r .said) (r .given)) [] ++ opcodesIn mode rs
 
 -- the answer of a row whose record is refused
-abbrev pub answerOf : Entry → Said → List ℕ
+abbrev pub answerOf : Entry → Expected → List ℕ
 answerOf oneRecord (prints text) = []
 answerOf oneRecord (answers n) = n ∷ []
 answerOf oneListing (prints text) = []

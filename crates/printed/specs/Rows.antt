@@ -41,15 +41,15 @@ pub data Entry : Type 0 where
   oneListing : Entry
 
 -- what the Rust made of it: a text, or one of document 01's answers 1 to 5
-pub data Said : Type 0 where
-  prints : String → Said
-  answers : ℕ → Said
+pub data Expected : Type 0 where
+  prints : String → Expected
+  answers : ℕ → Expected
 
 pub record Row : Type 0 where
   pub entry : Entry
   pub modes : List ℕ
   pub given : List ℕ
-  pub said : Said
+  pub said : Expected
 
 -- "Mode 0 is the crate's", "Mode 1, straight"; and two numbers of no mode
 abbrev pub both : List ℕ
@@ -65,15 +65,15 @@ abbrev pub unknown : List ℕ
 unknown = 2 ∷ 4_294_967_295 ∷ []
 
 -- a record's body: body both "0050 00 04 00 00000000 00000000 00" (prints "nop")
-abbrev pub body : List ℕ → String → Said → Row
+abbrev pub body : List ℕ → String → Expected → Row
 body modes given said = record { entry = oneRecord; modes = modes; given = hex given; said = said }
 
 -- a listing: listing both "01 00" (prints "; cut\n")
-abbrev pub listing : List ℕ → String → Said → Row
+abbrev pub listing : List ℕ → String → Expected → Row
 listing modes given said = record { entry = oneListing; modes = modes; given = hex given; said = said }
 
 -- a listing of one byte, so many times: repeated both "02" 16777217 (answers 2)
-abbrev pub repeated : List ℕ → String → ℕ → Said → Row
+abbrev pub repeated : List ℕ → String → ℕ → Expected → Row
 repeated modes given times said =
     record { entry = oneListing; modes = modes; given = list.replicate times (list.getD (hex given) 0 0); said = said }
 
@@ -94,7 +94,7 @@ pub record Printed (outcome : List ℕ → Outcome) (text : List ℕ) : Type 0 w
 abbrev pub Answered : (List ℕ → Outcome) → ℕ → Type 0
 Answered outcome n = (buf : List ℕ) → outcome buf ≡ record { answer = n; length = 0; buffer = buf }
 
-abbrev pub Says : (List ℕ → Outcome) → Said → Type 0
+abbrev pub Says : (List ℕ → Outcome) → Expected → Type 0
 Says outcome (prints text) = Printed outcome (bytes text)
 Says outcome (answers n) = Answered outcome n
 

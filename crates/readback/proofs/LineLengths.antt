@@ -20,7 +20,7 @@ use Rattle.located.specs.Parts.{pair, pairs, bodyText, headLine, shownText, com
 use Rattle.located.specs.Located.{wrapped, partsOf, locatedText}
 use Rattle.located.proofs.BodyTexts.{length-pair}
 use Rattle.located.proofs.RecordParts.{shown-short, head-short}
-use Rattle.located.proofs.Following.{parts-part, parts-whole}
+use Rattle.located.proofs.PartLaws.{parts-part, parts-whole}
 use Rattle.masm.proofs.Tokens.{unbroken}
 use Rattle.readback.specs.Listings.{linesIn}
 use Rattle.readback.specs.Located.{Short, lineLimit}

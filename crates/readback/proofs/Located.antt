@@ -26,7 +26,7 @@ use Rattle.located.specs.Parts.{pair, pairs, bodyText, headLine, shownText, com
 use Rattle.located.specs.Located.{wrapped, partsOf, locatedText}
 use Rattle.located.specs.Runs.{Runs}
 use Rattle.located.proofs.RecordParts.{shown-line}
-use Rattle.located.proofs.Following.{parts-part, parts-whole}
+use Rattle.located.proofs.PartLaws.{parts-part, parts-whole}
 use Rattle.located.proofs.Running.{run-text}
 use Rattle.masm.specs.Lines.{Reading, shows, no-instruction, refused, read}
 use Rattle.masm.proofs.Tokens.{unbroken}

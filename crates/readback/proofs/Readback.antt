@@ -28,7 +28,7 @@ use Rattle.lines.specs.Text.{lineBy}
 use Rattle.lines.specs.declared.Name.the-variants.{Opcode, Feni, Fdisi, Fsetpm}
 use Rattle.records.specs.Records.{modeOf, armAt, lineAt, recordText}
 use Rattle.records.specs.declared.Asked.{Asked}
-use Rattle.records.proofs.Judging.{kept}
+use Rattle.records.proofs.Judging.{unrefused}
 use Rattle.masm.specs.Lines.{shows, read}
 use Rattle.masm.proofs.Tokens.{unbroken}
 use Rattle.masm.proofs.Texts.{line-unbroken}
@@ -81,13 +81,13 @@ line-sound mode arm i w shape size =
 module _ {asked : Asked} {body : List ℕ} (p : Printed asked body) where
   -- the record of a printed body keeps the rules
   pub well : WellFormed (instructionOf body)
-  well = accepted body (p .bytes) (kept asked body (p .accepted) .no-field)
+  well = accepted body (p .bytes) (unrefused asked body (p .accepted) .no-field)
 
   -- and its line is sound
   pub sound : Sound (branches (armAt body) (instructionOf body)) (lineAt asked body)
   unfolding lineAt
   sound =
-      let k = kept asked body (p .accepted) in
+      let k = unrefused asked body (p .accepted) in
       line-sound (modeOf asked) (armAt body) (instructionOf body) well (k .no-shape) (k .no-size)
 
   -- ---- The theorems

@@ -7,8 +7,8 @@ use Prim.Native.Nat.{ℕ, _≤_, _<_}
 use native.Mathlib.Omega.{arith}
 use lib.Dec.{T, eqb}
 use borrow.Author.Tests.{eqb-true, eqb-false, ltb-false}
-use Rattle.answers.specs.Refusals.{answerOf, room, None, Numbered}
-use Rattle.answers.proofs.Firsts.{numbered-by, answer-below, answer-not, none-or-answer}
+use Rattle.answers.specs.Refusals.{answerOf, room, None, NeverZero}
+use Rattle.answers.proofs.Firsts.{never-zero-by, answer-below, answer-not, none-or-answer}
 use Rattle.bodies.specs.Body.{countOf}
 use Rattle.bodies.specs.Refusals.{lengthRefused, fieldRefused}
 use Rattle.bodies.specs.Code.{Whole}
@@ -69,9 +69,9 @@ module _ (asked : Asked) (body : List ℕ) where
             unfolding judged refusals
             at-accepted e = rw (m, l, f, shape-kept, sym size-is ∙ e, p, a)
 
-  pub refusals-numbered : Numbered (refusals asked body)
+  pub refusals-never-zero : NeverZero (refusals asked body)
   unfolding refusals
-  refusals-numbered = numbered-by (refusals asked body) tt
+  refusals-never-zero = never-zero-by (refusals asked body) tt
 
   pub refusals-below : answerOf (refusals asked body) < 100
   unfolding refusals
@@ -107,7 +107,7 @@ unfolding fieldRefused
 few-counted body e = ltb-false 4 (countOf body) (search (neither-left, neither-right, e) depth 10)
 
 -- what is known of an accepted record
-pub record Kept (asked : Asked) (body : List ℕ) : Type 0 where
+pub record Unrefused (asked : Asked) (body : List ℕ) : Type 0 where
   pub no-mode : modeRefused asked ≡ false
   pub no-length : lengthRefused body ≡ false
   pub no-field : fieldRefused body ≡ false
@@ -116,10 +116,10 @@ pub record Kept (asked : Asked) (body : List ℕ) : Type 0 where
   pub held : Whole body
   pub few : countOf body ≤ 4
 
-pub kept : (asked : Asked) (body : List ℕ) → answerOf (refusals asked body) ≡ 0 → Kept asked body
+pub unrefused : (asked : Asked) (body : List ℕ) → answerOf (refusals asked body) ≡ 0 → Unrefused asked body
 unfolding refusals
-kept asked body e =
-    let n : None (refusals asked body) = none-or-answer (refusals asked body) (refusals-numbered asked body) e in
+unrefused asked body e =
+    let n : None (refusals asked body) = none-or-answer (refusals asked body) (refusals-never-zero asked body) e in
     record {
       no-mode = n .0;
       no-length = n .1 .0;
@@ -131,5 +131,5 @@ kept asked body e =
     }
 
 -- the plan of an accepted record shows its operands from the left
-pub plan-from-the-left : {asked : Asked} {body : List ℕ} {plan : Plan} (mode : Mode) → Kept asked body → plan ≡ planOf (armAt body) (instructionOf body) → fromTheLeft (itemsAt mode (instructionOf body) plan) ≡ true
+pub plan-from-the-left : {asked : Asked} {body : List ℕ} {plan : Plan} (mode : Mode) → Unrefused asked body → plan ≡ planOf (armAt body) (instructionOf body) → fromTheLeft (itemsAt mode (instructionOf body) plan) ≡ true
 plan-from-the-left {body = body} mode k p = rw p (body-from-the-left mode (armAt body) body (k .no-shape))

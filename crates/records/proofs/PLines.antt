@@ -30,7 +30,7 @@ use Rattle.lines.specs.Head.{headOf}
 use Rattle.lines.specs.Text.{repsText, prefixesText, nameText, headText, partedText, itemsText, lineText}
 use Rattle.records.specs.Records.{refusals, lineAt, recordText, recordOutcome}
 use Rattle.records.specs.Compared.{asking, Compared, lines, Prints, All, Holds}
-use Rattle.records.proofs.Judging.{refusals-numbered}
+use Rattle.records.proofs.Judging.{refusals-never-zero}
 
 -- what a record comes to before there is a buffer: its answer, or 0, and the text
 abbrev Comes : Type 0
@@ -51,7 +51,7 @@ unfolding recordOutcome outcomeOf
 prints text body mode e buf fits =
     let none : answerOf (refusals (asking mode) body) ≡ 0 = ap (λ (c : Comes). c .answer) e in
     let is : recordText (asking mode) body ≡ text = ap (λ (c : Comes). c .text) e in
-    rw (is, answer-append (refusals (asking mode) body) _ (refusals-numbered (asking mode) body) none, le-ltb (length buf) (length text) fits)
+    rw (is, answer-append (refusals (asking mode) body) _ (refusals-never-zero (asking mode) body) none, le-ltb (length buf) (length text) fits)
 
 -- two tables that are equal are so entry by entry
 pub each : {A B : Type 0} {P : A → Type 0} (f g : A → B) → ((x : A) → f x ≡ g x → P x) → (xs : List A) → map f xs ≡ map g xs → All P xs

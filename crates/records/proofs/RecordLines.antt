@@ -18,7 +18,7 @@ use Rattle.lines.proofs.Rooms.{line-within}
 use Rattle.records.specs.declared.Asked.{Asked}
 use Rattle.records.specs.Records.{modeOf, armAt, refusals, lineAt, recordText}
 use Rattle.records.specs.Lines.{recordLine}
-use Rattle.records.proofs.Judging.{kept}
+use Rattle.records.proofs.Judging.{unrefused}
 use Rattle.records.proofs.Texts.{text-short, line-refused, line-accepted}
 use Rattle.records.proofs.InOrder.{plan-in-order}
 
@@ -42,10 +42,10 @@ module _ (asked : Asked) (body : List ℕ) where
   unfolding recordText lineAt
   text-within e =
       line-within (modeOf asked) (armAt body) (planOf (armAt body) (instructionOf body)) body (plan-in-order (armAt body) (instructionOf body))
-      (kept asked body e .few)
+      (unrefused asked body e .few)
 
   pub record-line-within : length (recordLine asked body) ≤ 9 * (2 + length body)
   record-line-within =
       by-answer (λ (t : List ℕ). length t ≤ 9 * (2 + length body))
-      (λ e. omega (arith, length-append (recordText asked body) newline, text-within e, kept asked body e .held .stored))
+      (λ e. omega (arith, length-append (recordText asked body) newline, text-within e, unrefused asked body e .held .stored))
       (λ n. omega (arith, refused-most n))

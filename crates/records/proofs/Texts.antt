@@ -31,7 +31,7 @@ use Rattle.records.specs.Records.{modeOf, armAt, refusals, lineAt, recor
 use Rattle.records.specs.Lines.{recordLine}
 use Rattle.records.specs.Judged.{textOf}
 use Rattle.records.specs.declared.Asked.{Asked}
-use Rattle.records.proofs.Judging.{refusals-numbered, refusals-not-room}
+use Rattle.records.proofs.Judging.{refusals-never-zero, refusals-not-room}
 
 module _ (asked : Asked) (body : List ℕ) where
   -- no line exceeds the longest
@@ -79,7 +79,7 @@ module _ (asked : Asked) (body : List ℕ) where
     -- its outcome is by the room alone
     pub outcome-text : (buf : List ℕ) → textOutcome (recordText asked body) buf ≡ recordOutcome asked body buf
     unfolding textOutcome recordOutcome
-    outcome-text buf = rw (answer-append (refusals asked body) _ (refusals-numbered asked body) e)
+    outcome-text buf = rw (answer-append (refusals asked body) _ (refusals-never-zero asked body) e)
 
   -- the outcome of a refused record
   pub refused-gives : {n : ℕ} (buf : List ℕ) → n ≡ answerOf (refusals asked body) → 0 < n → (n ≡ room → ⊥) → Gives (recordOutcome asked body buf) (record { number = n; length = 0 }) buf

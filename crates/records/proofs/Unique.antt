@@ -11,16 +11,16 @@ use Rattle.answers.specs.Table.{Answered}
 use Rattle.answers.proofs.Unique.{room-numbered, room-meets, only}
 use Rattle.records.specs.Records.{refusals, recordText, recordOutcome}
 use Rattle.records.specs.declared.Asked.{Asked}
-use Rattle.records.proofs.Judging.{refusals-numbered}
+use Rattle.records.proofs.Judging.{refusals-never-zero}
 
 module _ (asked : Asked) (body buf : List ℕ) where
   pub record-meets : let o = recordOutcome asked body buf in Answered (withRoom (refusals asked body) (recordText asked body) buf) (recordText asked body) buf (o .answer) (o .length) (o .buffer)
   unfolding recordOutcome
-  record-meets = room-meets (refusals asked body) (refusals-numbered asked body) (recordText asked body) buf
+  record-meets = room-meets (refusals asked body) (refusals-never-zero asked body) (recordText asked body) buf
 
   pub record-only : {answer n : ℕ} {after : List ℕ} → Answered (withRoom (refusals asked body) (recordText asked body) buf) (recordText asked body) buf answer n after → let o = recordOutcome asked body buf in (answer ≡ o .answer) × (n ≡ o .length) × (after ≡ o .buffer)
   unfolding recordOutcome
-  record-only met = only (room-numbered (refusals asked body) (refusals-numbered asked body) (recordText asked body) buf) met
+  record-only met = only (room-numbered (refusals asked body) (refusals-never-zero asked body) (recordText asked body) buf) met
 
   -- "The lowest number that applies is given": document 01's numbers ascend in the order in which they are asked
   pub record-ascends : ascending (withRoom (refusals asked body) (recordText asked body) buf) ≡ true

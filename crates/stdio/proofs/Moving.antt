@@ -13,7 +13,7 @@ pub record Moving (before : List ℕ) (from have : ℕ) (now : List ℕ) (i : �
   pub after-from : from ≤ i
   pub up-to : i ≤ have
   pub within : have ≤ length before
-  pub kept : length now ≡ length before
+  pub same-length : length now ≡ length before
   pub front : take (i - from) now ≡ take (i - from) (drop from before)
   pub to-come : drop i now ≡ drop i before
 
@@ -23,7 +23,7 @@ moving-start before from have h l =
       after-from = omega arith;
       up-to = h;
       within = l;
-      kept = refl;
+      same-length = refl;
       front = ap (λ (n : ℕ). take n before) none ∙ sym (ap (λ (n : ℕ). take n (drop from before)) none);
       to-come = refl;
     }
@@ -48,13 +48,13 @@ module _ {before : List ℕ} {from have : ℕ} {now : List ℕ} {i : ℕ} (m : M
   moving-on =
       let at = i - from in
       let next : i + 1 - from ≡ suc at = omega (arith, m .after-from) in
-      let there : at < length now = omega (arith, m .kept, m .within, more) in
+      let there : at < length now = omega (arith, m .same-length, m .within, more) in
       let stood : at < length (drop from before) = omega (arith, length-drop from before, m .within, m .after-from, more) in
       record {
         after-from = omega (arith, m .after-from);
         up-to = omega (arith, more);
         within = m .within;
-        kept = length-set now at (getD now i 0) ∙ m .kept;
+        same-length = length-set now at (getD now i 0) ∙ m .same-length;
         front =
             ap (λ (n : ℕ). take n (set now at (getD now i 0))) next
             ∙ take-suc-set now at (getD now i 0) there

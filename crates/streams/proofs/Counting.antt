@@ -26,7 +26,7 @@ use Rattle.streams.specs.Stream.{Taken, taken, ended, refusedBy, version
 use Rattle.streams.specs.Counts.{sumWithin, sumOf, listingSum}
 use Rattle.streams.specs.declared.Stage.{Stage}
 use Rattle.streams.specs.declared.Stage.the-variants.{Version, Frames, Skip, Done}
-use Rattle.listings.proofs.Following.{frame-some}
+use Rattle.listings.proofs.LineLaws.{frame-some}
 use Rattle.streams.proofs.Streaming.{Known, long-answer, part-cut, all-whole, length-stays, body-stays, after-stays, ltb-shift}
 
 module _ (f : List ℕ → ℕ) where

@@ -32,7 +32,7 @@ use Rattle.streams.specs.declared.Stage.{Stage}
 use Rattle.streams.specs.declared.Stage.the-variants.{Version, Frames, Skip, Done}
 use Rattle.streams.specs.declared.Next.{Next}
 use Rattle.streams.specs.declared.Next.the-variants.{Full, Read, Whole, Cut, Unknown}
-use Rattle.listings.proofs.Following.{frame-some}
+use Rattle.listings.proofs.LineLaws.{frame-some}
 use Rattle.streams.proofs.Stepping.{Bounded, bounded}
 use Rattle.streams.proofs.Streaming.{part-cut, all-whole, length-stays, after-stays, ltb-shift}
 

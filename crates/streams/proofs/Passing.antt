@@ -41,7 +41,7 @@ pub record Going (asked : Asked) (start : Stage) (input before : List ℕ) (stag
   pub said : out ≤ (longestLine + 1) * at
   pub fits : out ≤ length before
   pub alive : Alive stage
-  pub kept : length text ≡ length before
+  pub same-length : length text ≡ length before
 
 pub going-start : (asked : Asked) (stage : Stage) (input before : List ℕ) → Alive stage → Going asked stage input before stage 0 0 0 0 before
 going-start asked stage input before alive =
@@ -55,7 +55,7 @@ going-start asked stage input before alive =
       said = lit≤ tt;
       fits = omega arith;
       alive = alive;
-      kept = refl;
+      same-length = refl;
     }
 
 -- the last line is no longer than the longest, and its newline
@@ -95,7 +95,7 @@ module _ {asked : Asked} {start : Stage} {input before : List ℕ} {stage : Stag
     module _ (room : out + longestLine + 1 ≤ length text) where
       says-room : Room before 0 (g .says ++ t .says)
       says-room =
-          record { fits = omega (arith, length-append (g .says) (t .says), g .put .next, bound .short, g .kept, room) }
+          record { fits = omega (arith, length-append (g .says) (t .says), g .put .next, bound .short, g .same-length, room) }
 
       steps-on : Steps asked start input (g .says ++ t .says) (r .stage) (drop (at + r .used) input) (records + r .records) (refused + r .refused)
       steps-on =
@@ -115,7 +115,7 @@ module _ {asked : Asked} {start : Stage} {input before : List ℕ} {stage : Stag
             said = omega (arith, same .put .next, bound .said, same .used-is, g .said);
             fits = omega (arith, both .next, says-room .fits);
             alive = rw (same .stage-is) (bound .alive);
-            kept = put-length says-room both;
+            same-length = put-length says-room both;
           }
 
     -- a step that uses nothing says nothing
@@ -137,18 +137,18 @@ module _ {asked : Asked} {start : Stage} {input before : List ℕ} {stage : Stag
         says = g .says;
         steps = g .steps;
         text = put-front (omega (arith, g .put .next, g .fits)) (g .put) ∙ sym (append-nil (g .says));
-        fits = omega (arith, g .fits, g .kept);
+        fits = omega (arith, g .fits, g .same-length);
         within = g .within;
         counted = (g .refuses, g .counts);
         alive = g .alive;
-        follows = full refl (omega (arith, none-left, room, g .kept, g .said));
+        follows = full refl (omega (arith, none-left, room, g .same-length, g .said));
       }
 
   -- no step uses any of the bytes that are held
   module _ {r : Step} {after : List ℕ} (room : out + longestLine + 1 ≤ length text) (took : Took (stepped asked stage (take (length input - at) (drop at input))) text out r after) (unused : r .used ≡ 0) where
     last-room : (next : Next) → Room before 0 (g .says ++ lastLine next)
     last-room next =
-        record { fits = omega (arith, length-append (g .says) (lastLine next), last-short next, g .put .next, g .kept, room) }
+        record { fits = omega (arith, length-append (g .says) (lastLine next), last-short next, g .put .next, g .same-length, room) }
 
     pub passes-rest : {ended : Bool} {next : Next} {end : ℕ} {last : List ℕ} → next ≡ nextAt ended stage (length input - at) → Put after out (lastLine next) end last → Passes asked start input ended (record { stage = stage; used = at; out = end; records = records; refused = refused; next = next }) last
     passes-rest {ended} {next} {end} {last} by put =

@@ -31,7 +31,7 @@ use Rattle.streams.specs.Stream.Streams.{read, step, end}
 use Rattle.streams.specs.declared.Stage.{Stage}
 use Rattle.streams.specs.declared.Stage.the-variants.{Version, Frames, Skip, Done}
 use Rattle.streams.proofs.Stepping.{Bounded, bounded}
-use Rattle.listings.proofs.Following.{lines-none, lines-some}
+use Rattle.listings.proofs.LineLaws.{lines-none, lines-some}
 use Rattle.listings.proofs.Fronts.{front-whole, front-cut}
 
 -- no record's body is longer: "14 + 5n (n as stored)", and n is a byte

@@ -17,16 +17,16 @@ loop-holds : tie.Need-loop-holds Inv-loop μ-loop
 loop-holds c = moving-start (now (c .args .input)) (c .args .from) (c .args .have) (c .pre .0) (c .pre .1)
 
 slice-read-input : tie.Need-slice-read-input Inv-loop μ-loop
-slice-read-input c = omega (arith, (c .before .before .loop) .inv .after-from, (c .before .before .loop) .inv .within, (c .before .before .loop) .inv .kept)
+slice-read-input c = omega (arith, (c .before .before .loop) .inv .after-from, (c .before .before .loop) .inv .within, (c .before .before .loop) .inv .same-length)
 
 sub-input : tie.Need-sub-input Inv-loop μ-loop
 sub-input c = omega (arith, (c .before .before .loop) .inv .after-from)
 
 slice-write-input : tie.Need-slice-write-input Inv-loop μ-loop
-slice-write-input c = omega (arith, (c .before .before .loop) .inv .within, (c .before .before .loop) .inv .kept)
+slice-write-input c = omega (arith, (c .before .before .loop) .inv .within, (c .before .before .loop) .inv .same-length)
 
 add-i : tie.Need-add-i Inv-loop μ-loop
-add-i c = omega (arith, (c .before .before .loop) .inv .within, (c .before .before .loop) .inv .kept)
+add-i c = omega (arith, (c .before .before .loop) .inv .within, (c .before .before .loop) .inv .same-length)
 
 loop-less : tie.Need-loop-less Inv-loop μ-loop
 loop-less c = omega arith
@@ -35,10 +35,10 @@ loop-again : tie.Need-loop-again Inv-loop μ-loop
 loop-again c = moving-on (c .before .before .loop .inv) (c .before .loop-test .taken)
 
 same-length : tie.Need-same-length Inv-loop μ-loop
-same-length c = (c .before .loop) .inv .kept
+same-length c = (c .before .loop) .inv .same-length
 
 returns : tie.Need-returns Inv-loop μ-loop
-returns c = ((c .before .loop) .inv .kept, moved (c .before .loop .inv) (c .loop-test .left))
+returns c = ((c .before .loop) .inv .same-length, moved (c .before .loop .inv) (c .loop-test .left))
 
 pub move-down-spec : {M : Type 1} → statement M
 move-down-spec =

@@ -7,7 +7,7 @@ use lib.ListN.{length, drop, length-drop}
 use denote.Ref.{now}
 use Rattle.answers.proofs.Outcomes.{text-refused, text-printed}
 use Rattle.listings.specs.Lines.{linesOf}
-use Rattle.listings.proofs.Following.{lines-short}
+use Rattle.listings.proofs.LineLaws.{lines-short}
 use Rattle.listings.proofs.Walking.{lines-aside, lines-fit, lines-put, lines-total}
 use borrow.Author.Needs.{needs}
 use Rattle.listings.proofs.listing.print_lines.Statement.{statement}

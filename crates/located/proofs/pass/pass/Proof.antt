@@ -22,7 +22,7 @@ loop-holds : tie.Need-loop-holds Inv-loop μ-loop
 loop-holds c = going-start (c .before .before .args .asked) (c .before .before .args .stage) (now (c .before .before .args .input)) (now (c .before .before .args .text))
 
 sub-loop : tie.Need-sub-loop Inv-loop μ-loop
-sub-loop c = omega (arith, (c .loop .inv .fits), (c .loop .inv .kept))
+sub-loop c = omega (arith, (c .loop .inv .fits), (c .loop .inv .same-length))
 
 sub-step : tie.Need-sub-step Inv-loop μ-loop
 sub-step c = omega (arith, (c .before .loop .inv .within))
@@ -46,7 +46,7 @@ put-last-requires : tie.Need-put-last-requires Inv-loop μ-loop
 put-last-requires c κs = omega (arith, (c .before .before .before .before .before .before .before .before .before .loop-test .taken), (c .before .before .before .before .before .before .step .kept .1 .1 .1 .1 .1 .1 .1 .1 .1 .1 .0))
 
 same-length : tie.Need-same-length Inv-loop μ-loop
-same-length c = (c .before .before .put-last .kept .0) ∙ ((c .before .before .before .before .before .before .before .before .before .step .kept .1 .1 .1 .1 .1 .1 .1 .1 .1 .1 .0) ∙ (c .before .before .before .before .before .before .before .before .before .before .before .before .before .loop .inv .kept))
+same-length c = (c .before .before .put-last .kept .0) ∙ ((c .before .before .before .before .before .before .before .before .before .step .kept .1 .1 .1 .1 .1 .1 .1 .1 .1 .1 .0) ∙ (c .before .before .before .before .before .before .before .before .before .before .before .before .before .loop .inv .same-length))
 
 returns : tie.Need-returns Inv-loop μ-loop
 returns c = passes-rest (c .before .before .before .before .before .before .before .before .before .before .before .before .before .loop .inv) (omega (arith, (c .before .before .before .before .before .before .before .before .before .before .before .before .loop-test .taken))) (c .before .before .before .before .before .before .before .before .before .step .ensures) (c .before .before .before .before .before .if1 .taken) (c .before .before .before .before .next-at .ensures) (c .before .before .put-last .ensures)
@@ -67,7 +67,7 @@ loop-again : tie.Need-loop-again Inv-loop μ-loop
 loop-again c = going-on (c .before .before .before .before .before .before .before .before .before .before .before .loop .inv) (c .before .before .before .before .before .before .before .step .ensures) (omega (arith, (c .before .before .before .before .before .before .before .before .before .before .loop-test .taken))) (c .before .before .before .if1 .left)
 
 same-length-2 : tie.Need-same-length-2 Inv-loop μ-loop
-same-length-2 c = (c .before .loop .inv .kept)
+same-length-2 c = (c .before .loop .inv .same-length)
 
 returns-2 : tie.Need-returns-2 Inv-loop μ-loop
 returns-2 c = passes-full (c .before .loop .inv) (c .before .before .before .before .pre .1 .1 .1 .1) (omega (arith, (c .loop-test .left)))

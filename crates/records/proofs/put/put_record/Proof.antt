@@ -8,7 +8,7 @@ use Rattle.text.proofs.Putting.{first, rest, and-then, put-none, room-as, put-a
 use Rattle.answers.specs.Lines.{newline}
 use Rattle.arms.proofs.Results.{results-equal as said}
 use Rattle.records.specs.Judged.{textOf}
-use Rattle.records.proofs.Judging.{judged-refused, judged-accepted, refusals-below, kept, plan-from-the-left}
+use Rattle.records.proofs.Judging.{judged-refused, judged-accepted, refusals-below, unrefused, plan-from-the-left}
 use Rattle.records.proofs.Texts.{alone-refused, listed-refused, accepted-text}
 use borrow.Author.Needs.{needs}
 use Rattle.records.proofs.put.put_record.Statement.{statement}
@@ -37,7 +37,7 @@ put-line-requires c κs = let a = (c .before .before .before .before .before .be
     let b = now (a .body) in
     let k = judged-accepted (a .asked) b (said ((c .before .before .before .before .before .judge) .ensures) ((c .before .before .before .arm) .given .1)) in
     let t = accepted-text (a .asked) b (k .0) (k .1) (k .2) ((c .mode-of) .ensures) (a .alone) in
-    let h = kept (a .asked) b (k .0) in
+    let h = unrefused (a .asked) b (k .0) in
     ((c .before .before .before .before .before .before .before .before .pre) .0, ((c .before .before .before .before .before .before .before .before .pre) .1 .0, ((c .before .before .before .before .before .before .before .before .pre) .1 .1 .0, (h .held, (h .few, (plan-from-the-left _ h (k .2), first (when (not (a .alone)) newline) (room-as t ((c .before .before .before .before .before .before .before .before .pre) .1 .1 .1 .1))))))))
 
 slice-aggregate-put-when : tie.Need-slice-aggregate-put-when

@@ -14,7 +14,7 @@ use Rattle.frames.specs.Frames.{bodyLength, isWhole, bodyOf, frameSize}
 use Rattle.frames.proofs.FrameAt.{size-whole}
 use Rattle.records.specs.declared.Asked.{Asked}
 use Rattle.listings.specs.Lines.{cutLine}
-use Rattle.listings.proofs.Following.{frame-some}
+use Rattle.listings.proofs.LineLaws.{frame-some}
 use Rattle.streams.proofs.Streaming.{all-whole}
 use Rattle.located.specs.Parts.{recordPart}
 use Rattle.located.specs.Located.{wrapped, partsWithin, partsOf}
