@@ -20,6 +20,8 @@ use std::process::{Command, Stdio};
 const RECORDS: usize = 200_000;
 const SEED: u64 = 1;
 const ROUNDS: u32 = 21;
+/// All rows are timed so often, one after the other, so that no row has all its rounds at a bad time.
+const PASSES: usize = 3;
 /// more than the longest line
 const RECORD_ROOM: u64 = 512;
 
@@ -28,35 +30,49 @@ fn main() {
     let listing = mix::listing(RECORDS, SEED);
     let mut text = Sink::default();
     listing_into(&listing, 0, &mut text).expect("000 prints what document 01 accepts");
-    println!("{RECORDS} records, {} bytes in, {} bytes out, {ROUNDS} rounds", listing.len(), text.0.len());
-    let mut rows = Vec::new();
-    // room for 257 bytes a record and for six times the listing, so that no printer measures first
-    let ample = (257 * RECORDS).max(6 * listing.len() + 6);
-    // in turn, so that what changes on the machine meanwhile changes for all
-    let hosts = pairs("BENCH_HOSTS");
-    for (label, command) in &hosts {
-        rows.push(time_host(label, command, &listing, &text.0, ample));
-    }
-    let measured = |label: &str| label.starts_with("the archive") || label == "direct Rust";
-    let measured: Vec<_> = hosts.iter().filter(|(label, _)| measured(label)).collect();
-    for (label, command) in &measured {
-        rows.push(time_host(&format!("{label}, no room to spare"), command, &listing, &text.0, text.0.len()));
-    }
-    for (words, room) in [("a record a call", RECORD_ROOM), ("a record a call, no room to spare", 0)] {
-        for (label, command) in &measured {
-            rows.push(time_records(&format!("{label}, {words}"), command, &listing, text.0.len() - RECORDS, room));
-        }
-    }
+    println!("{RECORDS} records, {} bytes in, {} bytes out, {PASSES} times {ROUNDS} rounds", listing.len(), text.0.len());
     let input = format!("{folder}/listing");
     std::fs::write(&input, &listing).expect("the folder can be written");
-    rows.extend(time_zydis(&command("BENCH_ZYDIS"), &input));
-    for (label, command) in pairs("BENCH_PROGRAMS") {
-        rows.push(time_program(&label, &command, &listing, &text.0, &input));
+    let mut rows: Vec<Row> = Vec::new();
+    for pass in 0..PASSES {
+        for (at, row) in one_pass(&listing, &text.0, &input).into_iter().enumerate() {
+            if pass == 0 {
+                rows.push(row);
+            } else {
+                rows[at].more(row);
+            }
+        }
     }
     let table = chart::table(&rows);
     print!("{table}");
     std::fs::write(format!("{folder}/bench.txt"), table).expect("the folder can be written");
     std::fs::write(format!("{folder}/bench.svg"), chart::svg(&rows)).expect("the folder can be written");
+}
+
+/// Each row once.
+fn one_pass(listing: &[u8], text: &[u8], input: &str) -> Vec<Row> {
+    let mut rows = Vec::new();
+    // room for 257 bytes a record and for nine times the listing, so that no printer measures first
+    let ample = (257 * RECORDS).max(9 * listing.len());
+    let hosts = pairs("BENCH_HOSTS");
+    for (label, command) in &hosts {
+        rows.push(time_host(label, command, listing, text, ample));
+    }
+    let measured = |label: &str| label.starts_with("the archive") || label == "direct Rust";
+    let measured: Vec<_> = hosts.iter().filter(|(label, _)| measured(label)).collect();
+    for (label, command) in &measured {
+        rows.push(time_host(&format!("{label}, no room to spare"), command, listing, text, text.len()));
+    }
+    for (words, room) in [("a record a call", RECORD_ROOM), ("a record a call, no room to spare", 0)] {
+        for (label, command) in &measured {
+            rows.push(time_records(&format!("{label}, {words}"), command, listing, text.len() - RECORDS, room));
+        }
+    }
+    rows.extend(time_zydis(&command("BENCH_ZYDIS"), input));
+    for (label, command) in pairs("BENCH_PROGRAMS") {
+        rows.push(time_program(&label, &command, listing, text, input));
+    }
+    rows
 }
 
 fn pairs(variable: &str) -> Vec<(String, String)> {

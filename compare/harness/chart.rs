@@ -2,6 +2,7 @@
 
 pub struct Row {
     label: String,
+    rounds: Vec<f64>,
     best: f64,
     middle: f64,
 }
@@ -10,13 +11,20 @@ impl Row {
     /// From nanoseconds a record, one for each round.
     pub fn new(label: &str, mut rounds: Vec<f64>) -> Row {
         rounds.sort_by(f64::total_cmp);
-        Row { label: label.into(), best: rounds[0], middle: rounds[rounds.len() / 2] }
+        Row { label: label.into(), best: rounds[0], middle: rounds[rounds.len() / 2], rounds }
+    }
+
+    /// The rounds of the same row, timed once more.
+    pub fn more(&mut self, other: Row) {
+        assert_eq!(self.label, other.label, "the rows stand in one order");
+        let rounds = [&self.rounds[..], &other.rounds].concat();
+        *self = Row::new(&other.label, rounds);
     }
 }
 
 pub fn table(rows: &[Row]) -> String {
     let mut table = String::from("nanoseconds a record     best   middle\n");
-    for Row { label, best, middle } in rows {
+    for Row { label, best, middle, .. } in rows {
         table += &format!("{label:<60} {best:>8.1} {middle:>8.1}\n");
     }
     table.replacen("nanoseconds a record     best   middle", &format!("{:<60} {:>8} {:>8}", "nanoseconds a record", "best", "middle"), 1)
@@ -35,7 +43,7 @@ pub fn svg(rows: &[Row]) -> String {
          <text x=\"10\" y=\"22\" font-weight=\"bold\">Nanoseconds a record (bar: best round, mark: middle round; blue: ours)</text>\n",
         LEFT + WIDE + 90.0,
     );
-    for (at, Row { label, best, middle }) in rows.iter().enumerate() {
+    for (at, Row { label, best, middle, .. }) in rows.iter().enumerate() {
         let top = 38.0 + HIGH * at as f64;
         let long = |value: f64| value / most * WIDE;
         let ours = label.starts_with("the archive") || label.starts_with("list_");
