@@ -12,7 +12,7 @@ mod chart;
 mod mix;
 
 use chart::Row;
-use harness::{command, run_program, Expected, Host};
+use harness::{command, run_program, Expected, Host, Timed};
 use oracle::{listing_into, Sink};
 use std::fs::File;
 use std::process::{Command, Stdio};
@@ -90,13 +90,13 @@ fn time_host(label: &str, command: &str, listing: &[u8], text: &[u8], room: usiz
         difference.print();
         std::process::exit(1);
     }
-    let rounds = host.time_listing(listing, 0, room, ROUNDS).expect("the host lives");
+    let rounds = host.time(Timed::Listing, listing, 0, room, ROUNDS).expect("the host lives");
     Row::new(label, rounds.iter().map(|&(_, took)| took as f64 / RECORDS as f64).collect())
 }
 
 /// Each record by a call of its own; `printed` are the bytes of all lines, without the newlines.
 fn time_records(label: &str, command: &str, listing: &[u8], printed: usize, room: u64) -> Row {
-    let rounds = Host::start(command).time_records(listing, 0, room, ROUNDS).expect("the host lives");
+    let rounds = Host::start(command).time(Timed::Records, listing, 0, room, ROUNDS).expect("the host lives");
     assert!(rounds.iter().all(|&(bytes, _)| bytes == printed as u64), "{label}: lines are lost");
     Row::new(label, rounds.iter().map(|&(_, took)| took as f64 / RECORDS as f64).collect())
 }

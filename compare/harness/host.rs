@@ -5,6 +5,15 @@ use oracle::{line_into, Complaint, Sink};
 use std::io::{BufReader, Read, Write};
 use std::process::{Child, ChildStdin, ChildStdout, Command, Stdio};
 
+/// What the C host times, by the letter that asks for it.
+#[derive(Clone, Copy)]
+pub enum Timed {
+    /// the listing entry, one call
+    Listing = b'b' as isize,
+    /// the record entry, a call for each record of a listing; a room of 0 is exactly what the record needs
+    Records = b'e' as isize,
+}
+
 pub struct Host {
     command: String,
     child: Child,
@@ -257,39 +266,17 @@ impl Host {
         }
     }
 
-    /// Times the listing entry: what the rounds returned, and the nanoseconds of each.
-    pub fn time_listing(
+    /// Times an entry: what the rounds returned, or the bytes that they printed, and the nanoseconds of each.
+    pub fn time(
         &mut self,
-        listing: &[u8],
-        mode: u32,
-        room: u64,
-        rounds: u32,
-    ) -> std::io::Result<Vec<(u64, u64)>> {
-        self.time(b'b', listing, mode, room, rounds)
-    }
-
-    /// Times the record entry, called for each record of a listing with this room, or with exactly the
-    /// room that it needs if this is 0: the bytes that the rounds printed, and the nanoseconds of each.
-    pub fn time_records(
-        &mut self,
-        listing: &[u8],
-        mode: u32,
-        room: u64,
-        rounds: u32,
-    ) -> std::io::Result<Vec<(u64, u64)>> {
-        self.time(b'e', listing, mode, room, rounds)
-    }
-
-    fn time(
-        &mut self,
-        letter: u8,
+        entry: Timed,
         listing: &[u8],
         mode: u32,
         room: u64,
         rounds: u32,
     ) -> std::io::Result<Vec<(u64, u64)>> {
         let head = [&rounds.to_le_bytes()[..], &mode.to_le_bytes(), &room.to_le_bytes()].concat();
-        self.ask(letter, &[&head, listing])?;
+        self.ask(entry as u8, &[&head, listing])?;
         (0..rounds)
             .map(|_| Ok((u64::from_le_bytes(self.number()?), u64::from_le_bytes(self.number()?))))
             .collect()

@@ -17,7 +17,7 @@ mod shrink;
 
 pub use checker::{Checker, Counts};
 pub use difference::Difference;
-pub use host::{Expected, Host};
+pub use host::{Expected, Host, Timed};
 pub use programs::run_program;
 
 /// The commands that the scripts set up: the C host over the archive, the two listing programs.
