@@ -4,7 +4,7 @@
 #
 # Statuses, of every command:
 #   0  done
-#   1  done, and the answer is the bad news: a listing that is cut or of an unknown version
+#   1  done, and the answer is the bad news: a listing that is cut or of an unknown version, or two that differ
 #   2  trouble: called wrongly, not built, not read or not written
 #
 # Variables that may be set from outside:
@@ -175,9 +175,60 @@ need_program() {
     fi
 }
 
-# ---- a run and its verdict
+# ---- files, a run and its verdict
 
-# verdict_of LINE: takes a program's last line apart; false where it is not such a line.
+# is_readable FILE: or it says why not
+is_readable() {
+    if [ ! -e "$1" ]; then say "there is no file '$1'"
+    elif [ -d "$1" ]; then say "'$1' is a directory"
+    elif [ ! -r "$1" ]; then say "'$1' cannot be read"
+    else return 0
+    fi
+    return 1
+}
+
+# run_program IS_LAST WORDS..: `program` with WORDS, as rt runs it: under the kit's loader and C library where there
+# is a kit. A program has no exit status of its own. What came of it is the last line on standard error that the
+# function IS_LAST takes; a run without such a line failed. Other lines there are words of a loader or an emulator,
+# and are passed on.
+#   last    that line; empty where there is none
+#   ended   the exit status, for what it is worth
+run_program() {
+    is_last=$1
+    shift
+    set -- "$program" "$@"
+    if [ -n "$loader" ]; then set -- "$loader" --library-path "$tools/lib" "$@"; fi
+    if [ -n "$emulator" ]; then set -- "$emulator" "$@"; fi
+    exec 3>&1
+    # the x shows where the last line ends
+    said=$("$@" 2>&1 >&3 3>&-; ended=$?; printf x; exit "$ended")
+    ended=$?
+    exec 3>&-
+    last=
+    left=$said
+    while [ "$left" != x ] && [ -n "$left" ]; do
+        line=${left%%"$line_end"*}
+        if [ "$line" = "$left" ]; then
+            # not ended by a newline, so not said to its end
+            line=${line%x} left=
+        else
+            left=${left#*"$line_end"}
+            if "$is_last" "$line"; then last=$line; continue; fi
+        fi
+        printf '%s\n' "$line" >&2
+    done
+}
+
+# why_failed: of a run without such a line
+why_failed() {
+    # 141: ended by the signal for a pipe that nobody reads
+    if [ "$ended" -eq 141 ]; then echo 'standard output was closed before everything was written'
+    else echo "the program failed (status $ended): lines may be missing"
+    fi
+}
+
+# verdict_of LINE: takes the last line of a program that prints a listing apart, `list: N records, R refused; WHAT`;
+# false where it is not such a line.
 verdict_of() {
     case $1 in 'list: '*' records, '*' refused; '*) ;; *) return 1 ;; esac
     records=${1#list: }
@@ -194,35 +245,12 @@ verdict_of() {
     esac
 }
 
-# run_program: `program`, from standard input to standard output, as rt runs it: under the kit's loader and C
-# library where there is a kit. A program has no exit status of its own. What came of it is its last line on
-# standard error, `list: N records, R refused; WHAT`; a run without that line failed. Other lines there are
-# words of a loader or an emulator, and are passed on.
-#   records, refused   the numbers of that line
+# print_listing: runs such a program from standard input to standard output.
+#   records, refused   the numbers of its last line
 #   what               its WHAT; empty where there is no such line
-#   ended              the exit status, for what it is worth
-run_program() {
-    set -- "$program"
-    if [ -n "$loader" ]; then set -- "$loader" --library-path "$tools/lib" "$@"; fi
-    if [ -n "$emulator" ]; then set -- "$emulator" "$@"; fi
-    exec 3>&1
-    # the x shows where the last line ends
-    said=$("$@" 2>&1 >&3 3>&-; ended=$?; printf x; exit "$ended")
-    ended=$?
-    exec 3>&-
-    last='' records='' refused='' what=''
-    left=$said
-    while [ "$left" != x ] && [ -n "$left" ]; do
-        line=${left%%"$line_end"*}
-        if [ "$line" = "$left" ]; then
-            # not ended by a newline, so not said to its end
-            line=${line%x} left=
-        else
-            left=${left#*"$line_end"}
-            if verdict_of "$line"; then last=$line; continue; fi
-        fi
-        printf '%s\n' "$line" >&2
-    done
+print_listing() {
+    records='' refused='' what=''
+    run_program verdict_of
     what=
     [ -z "$last" ] || verdict_of "$last"
 }

@@ -3,7 +3,7 @@
 # Variables that may be set from outside:
 #   MASM_SRC         the folder that holds document 000 below src/ (default: ../shared/docs/src)
 #   COMPARE_STANDIN  a folder with libhost.a, list_crate and list_straight, built for this machine,
-#                    that take the place of the proved ones
+#                    that take the place of the proved ones; compare/pairs wants compare_listings there
 #   RATTLE_HOME      the kit's folder (default: found from `rt` on the PATH)
 
 # shellcheck shell=sh disable=SC2034
@@ -75,39 +75,51 @@ find_kit() {
     fi
 }
 
-# wrapper NAME WORDS..: a script that runs WORDS.
+# wrapper NAME WORDS..: a script that runs WORDS, with what it is called with after them.
 wrapper() {
     name=$1
     shift
     {
         printf '#!/bin/sh\nexec'
         for word in "$@"; do printf " '%s'" "$word"; done
-        printf '\n'
+        printf ' "$@"\n'
     } >"$bin/$name"
     chmod +x "$bin/$name"
 }
 
-# The C host over the archive, and the listing programs: scripts in target/compare/bin that run them,
-# under the emulator where it takes one. `bin` is the folder of such scripts.
+# find_programs NAME..: scripts in the folder `bin` that run these programs, as rt runs them: under the kit's loader
+# and C library, and under the emulator where it takes one. A stand-in's folder is beside it, so that two of them can
+# be compared at a time.
+find_programs() {
+    bin=${COMPARE_STANDIN:-$out}/bin
+    mkdir -p "$bin"
+    [ -n "${COMPARE_STANDIN:-}" ] || find_kit
+    for name in "$@"; do
+        if [ -n "${COMPARE_STANDIN:-}" ]; then
+            [ -f "$COMPARE_STANDIN/$name" ] || die "there is no $COMPARE_STANDIN/$name"
+            wrapper "$name" "$COMPARE_STANDIN/$name"
+            continue
+        fi
+        [ -f "$root/target/bin/$name" ] || die "there is no target/bin/$name: run rt check $name"
+        if [ -n "$tools" ]; then
+            wrapper "$name" ${emulator:+"$emulator"} "$tools/lib/ld-linux-x86-64.so.2" --library-path "$tools/lib" "$root/target/bin/$name"
+        else
+            wrapper "$name" ${emulator:+"$emulator"} "$root/target/bin/$name"
+        fi
+    done
+}
+
+# The C host over the archive, and the listing programs.
 build_host() {
+    archive=$root/target/staticlib/libhost.a
+    if [ -z "${COMPARE_STANDIN:-}" ] && [ ! -f "$archive" ]; then die "there is no target/staticlib/libhost.a: run rt staticlib host"; fi
+    find_programs list_crate list_straight
     if [ -n "${COMPARE_STANDIN:-}" ]; then
-        # beside the stand-in, so that two of them can be compared at a time
-        bin=$COMPARE_STANDIN/bin
-        mkdir -p "$bin"
         cc -O2 -fno-builtin -o "$COMPARE_STANDIN/host" "$here/host/driver.c" "$COMPARE_STANDIN/libhost.a" -lpthread -ldl -lm ||
             die "the host does not link to the stand-in"
         wrapper host "$COMPARE_STANDIN/host"
-        wrapper list_crate "$COMPARE_STANDIN/list_crate"
-        wrapper list_straight "$COMPARE_STANDIN/list_straight"
     else
-        bin=$out/bin
-        mkdir -p "$bin" "$out/host"
-        archive=$root/target/staticlib/libhost.a
-        [ -f "$archive" ] || die "there is no target/staticlib/libhost.a: run rt staticlib host"
-        for name in list_crate list_straight; do
-            [ -f "$root/target/bin/$name" ] || die "there is no target/bin/$name: run rt check $name"
-        done
-        find_kit
+        mkdir -p "$out/host"
         if [ "$machine" = x86_64 ] && command -v cc >/dev/null 2>&1; then
             cc -O2 -fno-builtin -o "$out/host/host" "$here/host/driver.c" "$archive" || die "the host does not link to the archive"
         else
@@ -120,14 +132,6 @@ build_host() {
                 die "the host does not link to the archive"
         fi
         wrapper host ${emulator:+"$emulator"} "$out/host/host"
-        for name in list_crate list_straight; do
-            # as rt runs a program: under the kit's loader and C library
-            if [ -n "$tools" ]; then
-                wrapper "$name" ${emulator:+"$emulator"} "$tools/lib/ld-linux-x86-64.so.2" --library-path "$tools/lib" "$root/target/bin/$name"
-            else
-                wrapper "$name" ${emulator:+"$emulator"} "$root/target/bin/$name"
-            fi
-        done
     fi
     COMPARE_HOST=$bin/host
     COMPARE_LIST_CRATE=$bin/list_crate

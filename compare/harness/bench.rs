@@ -4,7 +4,8 @@
 //! C host (`host/driver.c`) over one printer, so all are timed by the same code: one call prints the
 //! whole listing from memory to memory, with room to spare and with exactly the room that the text needs
 //! (then the printer measures first); or a call prints each record. The programs come in BENCH_PROGRAMS in the same way and are
-//! timed as processes, from a file to nowhere. BENCH_ZYDIS is `timing/zydis.c`'s program, or empty; it
+//! timed as processes, from a file to nowhere. So do the programs that compare two listings, in
+//! BENCH_COMPARERS; they get the listing and a copy of it. BENCH_ZYDIS is `timing/zydis.c`'s program, or empty; it
 //! times itself. Times are processor time, so that what else runs on the machine counts as little as
 //! can be.
 
@@ -32,7 +33,9 @@ fn main() {
     listing_into(&listing, 0, &mut text).expect("000 prints what document 01 accepts");
     println!("{RECORDS} records, {} bytes in, {} bytes out, {PASSES} times {ROUNDS} rounds", listing.len(), text.0.len());
     let input = format!("{folder}/listing");
-    std::fs::write(&input, &listing).expect("the folder can be written");
+    for file in [&input, &copy_of(&input)] {
+        std::fs::write(file, &listing).expect("the folder can be written");
+    }
     let mut rows: Vec<Row> = Vec::new();
     for pass in 0..PASSES {
         for (at, row) in one_pass(&listing, &text.0, &input).into_iter().enumerate() {
@@ -72,7 +75,14 @@ fn one_pass(listing: &[u8], text: &[u8], input: &str) -> Vec<Row> {
     for (label, command) in pairs("BENCH_PROGRAMS") {
         rows.push(time_program(&label, &command, listing, text, input));
     }
+    for (label, command) in pairs("BENCH_COMPARERS") {
+        rows.push(time_comparer(&label, &command, input));
+    }
     rows
+}
+
+fn copy_of(input: &str) -> String {
+    format!("{input}.copy")
 }
 
 fn pairs(variable: &str) -> Vec<(String, String)> {
@@ -125,14 +135,27 @@ fn time_program(label: &str, command: &str, listing: &[u8], text: &[u8], input: 
     // the straight program's text differs where a short branch wraps, but not in its lines
     let lines = |text: &[u8]| text.iter().filter(|&&byte| byte == b'\n').count();
     assert_eq!(lines(&wrote), lines(text), "{command} drops or adds lines");
+    time_process(label, command, |process| {
+        process.stdin(File::open(input).expect("the listing is there"));
+    })
+}
+
+/// Two equal listings: every record is compared, and no line is printed.
+fn time_comparer(label: &str, command: &str, input: &str) -> Row {
+    let words = ["crate", input, &copy_of(input)];
+    let output = Command::new(command).args(words).output().expect("the program starts");
+    assert_eq!(String::from_utf8_lossy(&output.stdout), "differing records: 0\n", "{command} finds differences");
+    time_process(label, command, |process| {
+        process.args(words);
+    })
+}
+
+fn time_process(label: &str, command: &str, prepare: impl Fn(&mut Command)) -> Row {
     let rounds = (0..ROUNDS.min(9)).map(|_| {
+        let mut process = Command::new(command);
+        prepare(&mut process);
         let start = children_used();
-        let status = Command::new(command)
-            .stdin(File::open(input).expect("the listing is there"))
-            .stdout(Stdio::null())
-            .stderr(Stdio::null())
-            .status()
-            .expect("the program starts");
+        let status = process.stdout(Stdio::null()).stderr(Stdio::null()).status().expect("the program starts");
         assert!(status.success(), "{command} ends with {status}");
         (children_used() - start) as f64 / RECORDS as f64
     });

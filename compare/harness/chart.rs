@@ -46,7 +46,7 @@ pub fn svg(rows: &[Row]) -> String {
     for (at, Row { label, best, middle, .. }) in rows.iter().enumerate() {
         let top = 38.0 + HIGH * at as f64;
         let long = |value: f64| value / most * WIDE;
-        let ours = label.starts_with("the archive") || label.starts_with("list_");
+        let ours = ["the archive", "list_", "compare_listings"].iter().any(|start| label.starts_with(start));
         svg += &format!(
             "<text x=\"{:.0}\" y=\"{:.0}\" text-anchor=\"end\">{}</text>\n\
              <rect x=\"{LEFT}\" y=\"{top:.0}\" width=\"{:.1}\" height=\"18\" fill=\"{}\"/>\n\

@@ -1,5 +1,6 @@
 //! `stored FOLDER`: writes FOLDER/list_crate and FOLDER/list_straight, each with the files `stdin` and
-//! `stdout` that the gate runs a listing program on, and the same for where_crate and where_straight.
+//! `stdout` that the gate runs a listing program on, and the same for where_crate and where_straight; for
+//! compare_listings `args`, the two listings in `data`, and `stdout`.
 //! `stored FOLDER check`: says whether the files there are these.
 //!
 //! The listing, in order: document 01's lines; three records of each opcode that keep the rules;
@@ -7,8 +8,12 @@
 //! programs' buffer; a few records behind them; and an end inside a frame, which prints `; cut`.
 //! For where_crate and where_straight, whose text has each body too: document 01's lines; bodies of
 //! 0 to 81 bytes; the longest, and one nearly so, with records between them; and such an end.
+//! For compare_listings: document 01's lines and 300 records of the generator with the same seed, of which
+//! three quarters differ, by a bit of their last byte, in their length, or as a whole; long bodies, the longest
+//! of which differ in their last byte; document 01's lines on both sides, and then in the first alone, which has
+//! such an end.
 
-use oracle::{line_into, listing_into, Record, Sink, Slot};
+use oracle::{comparison_into, line_into, listing_into, Record, Sink, Slot};
 use records::Random;
 use std::fmt::Write;
 use std::path::Path;
@@ -36,6 +41,7 @@ fn main() {
     for (mode, program) in [(0, "where_crate"), (1, "where_straight")] {
         same &= store_run(&Path::new(folder).join(program), check, &listing, &located(&listing, mode));
     }
+    same &= store_comparison(&Path::new(folder).join("compare_listings"), check);
     same &= store(&Path::new(folder).join("printed").join("rows.txt"), rows::text().as_bytes(), check);
     std::process::exit(if same { 0 } else { 1 })
 }
@@ -73,6 +79,20 @@ fn located(listing: &[u8], mode: u32) -> Vec<u8> {
 fn store_run(place: &Path, check: bool, listing: &[u8], text: &[u8]) -> bool {
     let stdin = store(&place.join("stdin"), listing, check);
     store(&place.join("stdout"), text, check) && stdin
+}
+
+/// The same for the program that compares two: it is run beside what is in `data`.
+fn store_comparison(place: &Path, check: bool) -> bool {
+    let [first, second] = compared_listings();
+    let mut text = Sink::default();
+    comparison_into(&first, &second, 1, &mut text).expect("000 prints what document 01 accepts");
+    let files: [(&str, &[u8]); 4] = [
+        ("args", b"straight\nfirst.lst\nsecond.lst\n"),
+        ("data/first.lst", &first),
+        ("data/second.lst", &second),
+        ("stdout", &text.0),
+    ];
+    files.iter().fold(true, |same, (name, bytes)| store(&place.join(name), bytes, check) && same)
 }
 
 /// Writes a file, or says whether it is there as it would be written.
@@ -117,7 +137,7 @@ fn listing() -> Vec<u8> {
         bodies.push(body);
         bodies.extend_from_slice(&some);
     }
-    framed(&bodies)
+    with_cut(&bodies)
 }
 
 fn located_listing() -> Vec<u8> {
@@ -129,16 +149,52 @@ fn located_listing() -> Vec<u8> {
             bodies.extend_from_slice(&some);
         }
     }
-    framed(&bodies)
+    with_cut(&bodies)
 }
 
-/// A listing of these bodies that ends inside a frame: one of nineteen bytes that has seven.
-fn framed(bodies: &[Vec<u8>]) -> Vec<u8> {
+fn compared_listings() -> [Vec<u8>; 2] {
+    let some = documented();
+    let mut first = some.clone();
+    let mut random = Random::new(SEED);
+    while first.len() < some.len() + 300 {
+        let body = records::body(&mut random);
+        if (14..1000).contains(&body.len()) {
+            first.push(body);
+        }
+    }
+    let mut second = first.clone();
+    for (at, body) in second.iter_mut().enumerate() {
+        match at % 4 {
+            0 => {}
+            1 => *body.last_mut().expect("14 bytes or more") ^= 1,
+            2 => body[3] ^= 1,
+            _ => *body = first[at - 1].clone(),
+        }
+    }
+    for (length, last) in [(65_535, 1), (40_000, 0), (65_534, 0), (65_535, 1)] {
+        let mut body = vec![0; length];
+        first.push(body.clone());
+        body[length - 1] = last;
+        second.push(body);
+    }
+    first.extend_from_slice(&some);
+    second.extend_from_slice(&some);
+    first.extend_from_slice(&some);
+    [with_cut(&first), whole(&second)]
+}
+
+fn whole(bodies: &[Vec<u8>]) -> Vec<u8> {
     let mut listing = vec![1];
     for body in bodies {
         listing.extend((body.len() as u16).to_be_bytes());
         listing.extend_from_slice(body);
     }
+    listing
+}
+
+/// A listing of these bodies that ends inside a frame: one of nineteen bytes that has seven.
+fn with_cut(bodies: &[Vec<u8>]) -> Vec<u8> {
+    let mut listing = whole(bodies);
     listing.extend([0, 19, 0, 0, 0, 5, 0, 0, 0]);
     listing
 }

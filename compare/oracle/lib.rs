@@ -11,10 +11,13 @@
 //! - `refusals`: answers 4 and 5, from document 01's lists and never from 000
 //! - `print`: one record's answer and line in both modes
 //! - `listing`: frames and lines
+//! - `comparison`: two listings side by side
 //! - `fast`: the same for the benchmark, into a lent buffer; it needs only `core` (`--cfg bare`)
 
 #![cfg_attr(bare, no_std)]
 
+#[cfg(not(bare))]
+mod comparison;
 mod fast;
 #[cfg(not(bare))]
 mod listing;
@@ -28,6 +31,8 @@ mod shim;
 /// The listing entry's limit, the version byte counted. The programs have none.
 pub const MAX_LISTING: usize = 16_777_216;
 
+#[cfg(not(bare))]
+pub use comparison::comparison_into;
 pub use fast::{print_listing, print_record};
 #[cfg(not(bare))]
 pub use listing::listing_into;

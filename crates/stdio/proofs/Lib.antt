@@ -3,3 +3,4 @@ pub mod Moving
 pub mod Held
 pub mod Rounds
 pub mod Locating
+pub mod Comparing

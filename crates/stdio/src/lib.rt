@@ -1,6 +1,6 @@
 // From standard input to standard output, through one buffer of 64 KiB for what is read and one for what is written. All that
 // matters is `streams::pass::pass`; here are the calls of the system, of which no contract can speak. `locate` is the same over
-// `located::pass::pass`, through larger buffers.
+// `located::pass::pass`, through larger buffers, and `compare` over `compared::pass::pass`, from two files.
 ghost use mathlib.Core.Path.{_≡_};
 ghost use Prim.Native.Nat.{_+_, _-_, _^_, _≤_, _<_, min};
 ghost use lib.ListN.{length, take, drop};
@@ -22,6 +22,7 @@ use streams::Next;
 use streams::Passed;
 use streams::Stage;
 
+pub mod compare;
 pub mod locate;
 
 // A pass, and whether its lines could be written.
@@ -91,12 +92,12 @@ pub struct Got {
 }
 
 // Reads once, after the bytes that are held. There is room for some, so none means the end of the input.
-fn read_more(input: &mut [u8], held: usize) -> Got
+fn read_more(file: i32, input: &mut [u8], held: usize) -> Got
     requires { ⌜ held < length (now input) ⌝ }
     ensures { λ r. ⌜ held + r .count ≤ length (now (input .entry)) ⌝ }
     ensures { λ _. ⌜ take held (now (input .exit)) ≡ take held (now (input .entry)) ⌝ }
 {
-    let got = libc::read(STDIN_FILENO, &mut input[held..]);
+    let got = libc::read(file, &mut input[held..]);
     if got < 0 {
         return Got {
             count: 0,
@@ -164,8 +165,15 @@ pub struct Filled {
     pub end: End,
 }
 
+// For what is read: one frame at least, whole.
+fn input_buffer() -> [u8; 131072]
+    ensures { λ r. ⌜ 131_072 ≡ length r ⌝ }
+{
+    [0; 131072]
+}
+
 // More bytes, after those that are held, which move to the front.
-fn refill(from: usize, have: usize, input: &mut [u8]) -> Filled
+fn refill(file: i32, from: usize, have: usize, input: &mut [u8]) -> Filled
     requires { ⌜ (from ≤ have) × (have ≤ length (now input)) ⌝ }
     requires { ⌜ have - from < length (now input) ⌝ }
     ensures { λ r. ⌜ (have - from ≤ r .have) × (r .have ≤ length (now (input .entry))) ⌝ }
@@ -173,7 +181,7 @@ fn refill(from: usize, have: usize, input: &mut [u8]) -> Filled
 {
     move_down(input, from, have);
     let held = have - from;
-    let got = read_more(input, held);
+    let got = read_more(file, input, held);
     if got.failed {
         return Filled {
             have: held,
@@ -197,7 +205,7 @@ fn refilled(stage: Stage, from: usize, have: usize, tally: Tally, input: &mut [u
     ensures { λ r. ⌜ (r .from ≡ 0) × (have - from ≤ r .have) ⌝ }
     ensures { λ _. ⌜ take (have - from) (now (input .exit)) ≡ drop from (take have (now (input .entry))) ⌝ }
 {
-    let filled = refill(from, have, input);
+    let filled = refill(STDIN_FILENO, from, have, input);
     let end = filled.end;
     State {
         stage,

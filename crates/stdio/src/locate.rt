@@ -11,8 +11,10 @@ ghost use Rattle.located.specs.Parts.{longestPart};
 use crate::End;
 use crate::Tally;
 use crate::add;
+use crate::input_buffer;
 use crate::refill;
 use crate::report;
+use libc::STDIN_FILENO;
 use libc::STDOUT_FILENO;
 use located::Passed;
 use located::Stage;
@@ -152,7 +154,7 @@ fn round_of(
     }
     let next = passed.next;
     if let Next::Read = next {
-        let filled = refill(from, have, input);
+        let filled = refill(STDIN_FILENO, from, have, input);
         let end = filled.end;
         return State {
             stage,
@@ -172,13 +174,6 @@ fn round_of(
         tally,
         end,
     }
-}
-
-// For what is read: one frame at least, whole.
-fn input_buffer() -> [u8; 131072]
-    ensures { λ r. ⌜ 131_072 ≡ length r ⌝ }
-{
-    [0; 131072]
 }
 
 // For what is written: the text of one record at least.

@@ -21,8 +21,8 @@ same-length c = search needs
 returns : tie.Need-returns
 returns c = ((omega arith, omega (arith, (c .before .before .before .before .before .before .before .before .before .before .pre .0 .0), (c .before .before .before .before .before .before .before .before .before .before .pre .0 .1))), (c .before .before .before .read-more .ensures .1) ∙ (c .before .before .before .before .before .before .before .move-down .ensures .1))
 
-add-t13 : tie.Need-add-t13
-add-t13 c = search needs
+add-t14 : tie.Need-add-t14
+add-t14 c = search needs
 
 same-length-2 : tie.Need-same-length-2
 same-length-2 c = search needs
@@ -39,6 +39,6 @@ refill-spec =
     read-more-requires
     same-length
     returns
-    add-t13
+    add-t14
     same-length-2
     returns-2)

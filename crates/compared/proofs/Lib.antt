@@ -1,0 +1,23 @@
+-- Laws of where two listings differ: of the report, then of the code that says it.
+pub mod SameBytes
+pub mod Walks
+pub mod Namings
+pub mod WalkEvents
+pub mod Named
+pub mod Swapped
+pub mod SideLaws
+pub mod EqualListings
+pub mod SameListings
+pub mod Numbers
+pub mod Examples
+pub mod SideTexts
+pub mod EventTexts
+pub mod Fronts
+pub mod Capping
+pub mod Going
+pub mod Stepping
+pub mod Settling
+pub mod Passing
+pub mod Running
+pub mod OneStep
+pub mod Existing

@@ -1,0 +1,2 @@
+-- What stands at a place of a listing that may still go on. Definitions only.
+pub mod Code
