@@ -27,7 +27,8 @@ use Rattle.compared.specs.Places.{Found, startOf}
 use Rattle.compared.specs.Events.{naming, eventsAt}
 use Rattle.compared.specs.Report.{notSame}
 use Rattle.compared.specs.Text.{capped, eventsText, endText, longestEvent}
-use Rattle.compared.specs.Pass.{longestFrame, Passes}
+use Rattle.cursors.specs.Longest.{longestFrame}
+use Rattle.compared.specs.Pass.{Passes}
 use Rattle.compared.specs.Code.{wanting, turnOf, Notes, Steps}
 use Rattle.compared.proofs.Stepping.{Placed, placed-body, placed-end, more-there, steps-first, steps-second, steps-done, steps-note, wanting-few, steps-unknown, steps-known}
 use Rattle.compared.proofs.Settling.{turn-first, turn-second, turn-both, turn-only-first, turn-only-second, steps-ends}

@@ -29,7 +29,8 @@ use Rattle.compared.specs.Places.Found.{found, none}
 use Rattle.compared.specs.Events.{naming, eventsAt}
 use Rattle.compared.specs.Report.{notSame}
 use Rattle.compared.specs.Text.{capped, eventsText, endText, longestEvent}
-use Rattle.compared.specs.Pass.{Comes, Goes, longestFrame}
+use Rattle.cursors.specs.Longest.{longestFrame}
+use Rattle.compared.specs.Pass.{Comes, Goes}
 use Rattle.compared.specs.Pass.Follows.{goes-on as follows-on, wants-first, wants-second, ends as follows-end}
 use Rattle.compared.specs.Code.{wanting, Notes, Steps}
 use Rattle.compared.proofs.SideTexts.{end-most}

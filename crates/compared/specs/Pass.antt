@@ -5,6 +5,7 @@ use mathlib.Core.Bool.{Bool, true, false}
 use mathlib.Core.List.{List, [], _++_}
 use Prim.Native.Nat.{ℕ, _+_, _≤_, _<_}
 use lib.ListN.{length, take, drop}
+use Rattle.cursors.specs.Longest.{longestFrame}
 use Rattle.records.specs.declared.Asked.{Asked}
 use Rattle.compared.specs.declared.Stage.{Stage}
 use Rattle.compared.specs.declared.Stage.the-variants.{Versions, Records, Done}
@@ -35,10 +36,6 @@ Comes ended more = ended ≡ true → more ≡ []
 pub record Goes (asked : Asked) (ended ended′ : Bool) (stage : Stage) (xs ys says : List ℕ) (now : Stage) (xs′ ys′ : List ℕ) : Type 0 where
   pub said : (more more′ : List ℕ) → Comes ended more → Comes ended′ more′ → saying asked stage (xs ++ more) (ys ++ more′) ≡ says ++ saying asked now (xs′ ++ more) (ys′ ++ more′)
   pub verdict : (more more′ : List ℕ) → Comes ended more → Comes ended′ more′ → differing asked stage (xs ++ more) (ys ++ more′) ≡ differing asked now (xs′ ++ more) (ys′ ++ more′)
-
--- the bytes of the longest frame
-abbrev pub longestFrame : ℕ
-longestFrame = 65_537
 
 -- What comes after a step or a pass: some bytes were used; or more are wanted of a side, which has not ended, and no whole frame of it is
 -- held; or nothing is left to be said.

@@ -12,7 +12,8 @@ use Rattle.frames.specs.Numbers.{word}
 use Rattle.frames.specs.Frames.{isWhole, bodyLength}
 use Rattle.frames.proofs.FrameAt.{WholeAt, whole-at}
 use Rattle.frames.proofs.FrameAt as frame
-use Rattle.cursors.specs.Code.{atEnd, unfinished, longestFrame, standsAt, Sees}
+use Rattle.cursors.specs.Code.{atEnd, unfinished, standsAt, Sees}
+use Rattle.cursors.specs.Longest.{longestFrame}
 use Rattle.cursors.specs.declared.Stands.{Stands}
 use Rattle.cursors.specs.declared.Stands.the-variants.{Body, End, Cut, More}
 

@@ -7,6 +7,7 @@ use Prim.Native.Nat.{ℕ, _+_, _-_, _<_}
 use lib.Dec.{leb}
 use lib.ListN.{length, drop}
 use Rattle.frames.specs.Frames.{isWhole, bodyLength}
+use Rattle.cursors.specs.Longest.{longestFrame}
 use Rattle.cursors.specs.declared.Stands.{Stands}
 use Rattle.cursors.specs.declared.Stands.the-variants.{Body, End, Cut, More}
 
@@ -22,10 +23,6 @@ abbrev pub standsAt : List ℕ → ℕ → (ended : Bool) → Stands
 standsAt listing at ended =
     cond (leb (length listing) at) (atEnd ended)
     (cond (isWhole (drop at listing)) (Body (at + 2) (at + 2 + bodyLength (drop at listing))) (unfinished ended))
-
--- the bytes of the longest frame
-abbrev pub longestFrame : ℕ
-longestFrame = 65_537
 
 -- what is said to stand at a place stands there; and where more bytes are wanted, fewer are there than a frame may have
 pub record Sees (listing : List ℕ) (at : ℕ) (ended : Bool) (stands : Stands) : Type 0 where

@@ -7,7 +7,8 @@ use Prim.Native.Nat.{ℕ, _+_, _-_, _≤_, _<_}
 use native.Mathlib.Omega.{arith}
 use lib.ListN.{length, take, drop}
 use Rattle.records.specs.declared.Asked.{Asked}
-use Rattle.compared.specs.Pass.{longestFrame, Follows, Passes}
+use Rattle.cursors.specs.Longest.{longestFrame}
+use Rattle.compared.specs.Pass.{Follows, Passes}
 use Rattle.compared.specs.Pass.Follows.{goes-on, wants-first, wants-second, ends}
 use Rattle.compared.specs.declared.Next.{Next}
 use Rattle.compared.specs.declared.Next.the-variants.{First, Second}
