@@ -31,5 +31,4 @@ find_asmc() {
     [ -x "$files/usr/bin/asmc" ] || fetch_asmc || not_run "there is no asmc: $why"
     libraries=$files/usr/lib/x86_64-linux-gnu
     wrapper asmc ${emulator:+"$emulator"} "$libraries/ld-linux-x86-64.so.2" --library-path "$libraries" "$files/usr/bin/asmc" -q -bin
-    sed -i '$s/$/ "$@"/' "$bin/asmc"
 }

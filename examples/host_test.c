@@ -101,7 +101,7 @@ static struct body with(struct body b, unsigned kind, unsigned segment, unsigned
 
 /* opcode numbers, register bytes and segments of document 01, as far as they are used here */
 enum {
-	JMP = 0, XBEGIN = 22, MOV = 23, PUSH = 33, FXSAVE = 39, MOVS = 60, LSL = 65, SGDT = 75, LSS = 79, LODS = 89,
+	JMP = 0, CALL = 1, LOOP = 3, XBEGIN = 22, MOV = 23, PUSH = 33, FXSAVE = 39, MOVS = 60, LSL = 65, SGDT = 75, LSS = 79, LODS = 89,
 	AAM = 103, FADD = 112, FLD = 143, FST = 149, OPCODES = 154
 };
 enum { EAX = 0, ECX = 1, ESI = 6, EDI = 7, DX = 10, ST0 = 32 };
@@ -247,6 +247,11 @@ static void prints(struct body b, const char *text)
 	body_in_modes(&b, MASM_PRINTED, text, text);
 }
 
+static void prints_in_modes(struct body b, const char *crate, const char *straight)
+{
+	body_in_modes(&b, MASM_PRINTED, crate, straight);
+}
+
 static void refused(struct body b, uint32_t answer)
 {
 	body_in_modes(&b, answer, NULL, NULL);
@@ -264,15 +269,18 @@ static struct body mov_absolute(const char *about, uint32_t disp)
 	return with(with(record(about, MOV, 6, 4, 0, disp), 1, NONE, EAX, 0, 0), 9, NONE, 0, 0, 0);
 }
 
+static struct body branch(const char *about, unsigned opcode, unsigned kind, unsigned length, uint32_t distance)
+{
+	return with(record(about, opcode, length, 0, distance, 0), kind, NONE, 0, 0, 0);
+}
+
 static struct body jump(const char *about, unsigned kind, unsigned length, uint32_t distance)
 {
-	return with(record(about, JMP, length, 0, distance, 0), kind, NONE, 0, 0, 0);
+	return branch(about, JMP, kind, length, distance);
 }
 
 static void lines_to_compare(void)
 {
-	struct body b;
-
 	prints(mov_from("the least displacement", UINT32_C(0x80000000)), "mov eax, dword ptr [eax - 80000000h]");
 	prints(mov_from("displacement 9", 9), "mov eax, dword ptr [eax + 9]");
 	prints(mov_from("displacement 10", 10), "mov eax, dword ptr [eax + 0Ah]");
@@ -280,14 +288,20 @@ static void lines_to_compare(void)
 
 	prints(with(record("push -1", PUSH, 2, 4, UINT32_MAX, 0), 3, NONE, 0, 0, 0), "push 0FFFFFFFFh");
 
-	prints(jump("short jump, 125", 3, 2, 125), "jmp $+7Fh");
-	b = jump("short jump, 126", 3, 2, 126);
-	body_in_modes(&b, MASM_PRINTED, "jmp $-80h", "jmp $+80h");
-	prints(jump("long jump, 122", 5, 5, 122), "jmp $+7Fh");
-	prints(jump("long jump, 123", 5, 5, 123), "jmp near ptr $+80h");
-	prints(jump("long jump, 250", 5, 5, 250), "jmp near ptr $+0FFh");
-	prints(jump("long jump, 251", 5, 5, 251), "jmp $+100h");
-	prints(jump("long jump, 2147483647", 5, 5, UINT32_C(2147483647)), "jmp $-7FFFFFFCh");
+	prints_in_modes(jump("short jump, 125", 3, 2, 125), "jmp $+7Fh", "jmp short $+7Fh");
+	prints_in_modes(jump("short jump, 126", 3, 2, 126), "jmp $-80h", "jmp short $+80h");
+	prints_in_modes(jump("long jump, 20", 5, 5, 20), "jmp $+19h", "jmp near ptr $+19h");
+	prints_in_modes(jump("long jump, 122", 5, 5, 122), "jmp $+7Fh", "jmp near ptr $+7Fh");
+	prints_in_modes(jump("long jump, 123", 5, 5, 123), "jmp near ptr $+80h", "jmp near ptr $+80h");
+	prints_in_modes(jump("long jump, 250", 5, 5, 250), "jmp near ptr $+0FFh", "jmp near ptr $+0FFh");
+	prints_in_modes(jump("long jump, 251", 5, 5, 251), "jmp $+100h", "jmp near ptr $+100h");
+	prints_in_modes(jump("long jump, 2147483647", 5, 5, UINT32_C(2147483647)), "jmp $-7FFFFFFCh",
+	                "jmp near ptr $-7FFFFFFCh");
+	prints_in_modes(branch("call, 123", CALL, 5, 5, 123), "call near ptr $+80h", "call $+80h");
+	prints_in_modes(branch("short call, 126", CALL, 3, 2, 126), "call $-80h", "call $+80h");
+	prints_in_modes(branch("xbegin, 122", XBEGIN, 5, 6, 122), "xbegin near ptr $+80h", "xbegin $+80h");
+	prints_in_modes(branch("xbegin, kind 3", XBEGIN, 3, 6, 122), "xbegin 7Ah", "xbegin 7Ah");
+	prints_in_modes(branch("long loop, 5", LOOP, 5, 6, 5), "loop $+0Bh", "loop near ptr $+0Bh");
 
 	prints(with(record("aam of 10", AAM, 2, 0, 10, 0), 6, NONE, 0, 0, 0), "aam");
 	prints(with(record("aam of 266", AAM, 2, 0, 266, 0), 6, NONE, 0, 0, 0), "aam 0Ah");
@@ -303,7 +317,7 @@ static void lines_to_compare(void)
 	prints(mov_absolute("absolute ABCD", 0xABCD), "mov eax, dword ptr [0ABCDh]");
 	prints(mov_absolute("absolute ABC", 0xABC), "mov eax, dword ptr [0ABCh]");
 
-	prints(jump("instruction length 15", 3, 15, 0), "jmp $+0Fh");
+	prints_in_modes(jump("instruction length 15", 3, 15, 0), "jmp $+0Fh", "jmp short $+0Fh");
 	refused(jump("instruction length 0", 3, 0, 0), MASM_BAD_FIELD);
 	refused(jump("instruction length 16", 3, 16, 0), MASM_BAD_FIELD);
 }

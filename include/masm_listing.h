@@ -29,10 +29,14 @@
 extern "C" {
 #endif
 
-/* The mode: how the sum of a short branch is shown. */
+/* The mode: how a branch is shown. */
 enum {
-	MASM_MODE_CRATE = 0,   /* in 8 bits, as the Rust crate shows it: 126 + 2 is $-80h */
-	MASM_MODE_STRAIGHT = 1 /* whole, so that the target is the right one: 126 + 2 is $+80h */
+	/* As the Rust crate shows it: the sum of a short branch in 8 bits, so that 126 + 2 is $-80h; and
+	   near ptr only before a near branch whose sum is 128 to 255. */
+	MASM_MODE_CRATE = 0,
+	/* Where it goes and how long it is: the sum whole, so that 126 + 2 is $+80h, and before it short or
+	   near ptr. CALL and XBEGIN, which have no short form, have neither word. */
+	MASM_MODE_STRAIGHT = 1
 };
 
 /* The answers. Where several apply the lowest is given. */

@@ -44,11 +44,15 @@ pub(crate) enum Arm {
 
 use Arm::*;
 
+/// The branches that have no short form: straight lines put no word on them.
+const CALL: u8 = 1;
+const XBEGIN: u8 = 22;
+
 #[inline]
 fn arm(opcode: u8) -> Arm {
     match opcode {
         0..=21 => Branch,
-        22 => Xbegin,
+        XBEGIN => Xbegin,
         // MOVQ to CVTSI2SD, PEXTRQ PINSRQ
         42..=49 | 52 | 53 => Qword,
         // CVTSD2SI CVTTSD2SI
@@ -191,12 +195,16 @@ pub(crate) fn print(record: &Record, arm: Arm, mode: u32, line: &mut Line) {
         Branch => {
             line.word(" ");
             let length = record.length as i32;
+            let worded = mode == 1 && !matches!(record.opcode, CALL | XBEGIN);
             if a.kind == 3 {
+                if worded {
+                    line.word("short ");
+                }
                 let whole = record.imm as i8 as i32 + length;
                 line.branch(if mode == 0 { whole as i8 as i32 } else { whole });
             } else {
                 let sum = (record.imm as i32).wrapping_add(length);
-                if (128..256).contains(&sum) {
+                if worded || mode == 0 && (128..256).contains(&sum) {
                     line.word("near ptr ");
                 }
                 line.branch(sum);

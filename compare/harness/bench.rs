@@ -132,7 +132,7 @@ fn time_zydis(command: &str, input: &str) -> Vec<Row> {
 
 fn time_program(label: &str, command: &str, listing: &[u8], text: &[u8], input: &str) -> Row {
     let wrote = run_program(command, listing);
-    // the straight program's text differs where a short branch wraps, but not in its lines
+    // the straight program's text differs in its branches, but has as many lines
     let lines = |text: &[u8]| text.iter().filter(|&&byte| byte == b'\n').count();
     assert_eq!(lines(&wrote), lines(text), "{command} drops or adds lines");
     time_process(label, command, |process| {

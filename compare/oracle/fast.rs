@@ -6,6 +6,7 @@ use crate::record::Record;
 use crate::refusals::{shape_refused, size_refused};
 use crate::shim::arch::display::DisplaySink;
 use crate::shim::{Instruction, NoRules};
+use crate::straight;
 use crate::MAX_LISTING;
 use core::fmt::{self, Write};
 
@@ -37,25 +38,6 @@ impl fmt::Write for Lent<'_> {
 
 impl DisplaySink for Lent<'_> {}
 
-pub(crate) fn is_short_branch(record: &Record) -> bool {
-    record.opcode < 22 && record.count > 0 && record.slots[0].kind == 3
-}
-
-/// Sign and numeral of a short distance plus the length, with nothing wrapped.
-pub(crate) fn straight_sum(record: &Record, out: &mut impl fmt::Write) -> fmt::Result {
-    let sum = record.imm as i8 as i32 + record.length as i32;
-    let size = sum.unsigned_abs();
-    let top = core::iter::successors(Some(size), |&rest| (rest > 15).then_some(rest >> 4)).last();
-    write!(
-        out,
-        "{}{}{:X}{}",
-        if sum < 0 { '-' } else { '+' },
-        if top > Some(9) { "0" } else { "" },
-        size,
-        if size > 9 { "h" } else { "" },
-    )
-}
-
 /// The line, or the answer that refuses it with nothing written.
 fn line(body: &[u8], mode: u32, out: &mut Lent) -> Result<(), u64> {
     let record = Record::read(body).map_err(u64::from)?;
@@ -68,12 +50,25 @@ fn line(body: &[u8], mode: u32, out: &mut Lent) -> Result<(), u64> {
     let start = out.at;
     let printed = contextualize(&Instruction::of(&record), &NoRules, out);
     printed.expect("the buffer takes all");
-    if mode == 1 && is_short_branch(&record) {
-        let line = &out.text[start..out.at];
-        out.at = start + line.iter().rposition(|&byte| byte == b'$').expect("a branch has a `$`") + 1;
-        straight_sum(&record, out).expect("the buffer takes all");
+    if mode == 1 && straight::is_branch(&record) {
+        straighten(&record, start, out);
     }
     Ok(())
+}
+
+/// 000's line for a branch, from `start` on, is given mode 1's word and sum.
+fn straighten(record: &Record, start: usize, out: &mut Lent) {
+    let (word, dollar) = straight::place(&out.text[start..out.at]);
+    let (word, dollar) = (start + word, start + dollar);
+    let put = straight::word(record).as_bytes();
+    let behind = word + put.len();
+    out.text.copy_within(dollar..out.at, behind);
+    out.text[word..behind].copy_from_slice(put);
+    out.at = out.at - dollar + behind;
+    if straight::is_short_branch(record) {
+        out.at = behind + 1;
+        straight::whole_sum(record, out).expect("the buffer takes all");
+    }
 }
 
 /// As `masm_print_record`, for a buffer with room for any line.

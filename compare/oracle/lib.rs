@@ -9,6 +9,7 @@
 //! - `opcodes`: the 154 numbered opcodes, and those that 000 names beside them
 //! - `record`: a body's fields, answers 2 and 3
 //! - `refusals`: answers 4 and 5, from document 01's lists and never from 000
+//! - `straight`: mode 1's word and sum in 000's line for a branch
 //! - `print`: one record's answer and line in both modes
 //! - `listing`: frames and lines
 //! - `comparison`: two listings side by side
@@ -27,6 +28,7 @@ mod print;
 pub mod record;
 mod refusals;
 mod shim;
+mod straight;
 
 /// The listing entry's limit, the version byte counted. The programs have none.
 pub const MAX_LISTING: usize = 16_777_216;
@@ -40,6 +42,7 @@ pub use opcodes::name_of;
 #[cfg(not(bare))]
 pub use print::{line_into, unguarded_line, Complaint, Sink};
 pub use record::{Record, Slot};
+pub use straight::is_branch;
 
 /// The stand-in for the crate `yaxpeax_arch`, under the name that 000 imports it by.
 pub(crate) use shim::arch as yaxpeax_arch;

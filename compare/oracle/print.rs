@@ -1,11 +1,11 @@
 //! One record: its answer and, if it is printed, its line in either mode.
 
-use crate::fast::{is_short_branch, straight_sum};
 use crate::protected_mode::display::masm::contextualize;
 use crate::record::Record;
 use crate::refusals::{shape_refused, size_refused};
 use crate::shim::arch::display::DisplaySink;
 use crate::shim::{Instruction, NoRules};
+use crate::straight;
 use core::fmt;
 use std::panic::{catch_unwind, AssertUnwindSafe};
 
@@ -70,16 +70,19 @@ pub fn line_into(body: &[u8], mode: u32, out: &mut Sink) -> Result<u8, Complaint
         out.0.truncate(start);
         return Err(complaint);
     }
-    if mode == 1 && is_short_branch(&record) {
+    if mode == 1 && straight::is_branch(&record) {
         straighten(&record, out);
     }
     Ok(0)
 }
 
-/// Mode 1's only difference: the sum of an 8-bit distance and the length is kept whole. 000's line
-/// for such a record ends in `$`, a sign and a numeral, and has no other `$`.
+/// Mode 1's only difference: the word before `$`, and the sum of an 8-bit distance and the length, which is kept whole.
 fn straighten(record: &Record, out: &mut Sink) {
-    let dollar = out.0.iter().rposition(|&byte| byte == b'$').expect("a branch has a `$`");
-    out.0.truncate(dollar + 1);
-    straight_sum(record, out).expect("the sink takes all");
+    let (word, dollar) = straight::place(&out.0);
+    out.0.splice(word..dollar, straight::word(record).bytes());
+    if straight::is_short_branch(record) {
+        let dollar = word + straight::word(record).len();
+        out.0.truncate(dollar + 1);
+        straight::whole_sum(record, out).expect("the sink takes all");
+    }
 }

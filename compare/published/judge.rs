@@ -2,14 +2,19 @@
 //! the published crate decoded; a few of each opcode and form are taken. ASMC and AS are programs (`-`:
 //! none): ASMC FILE.asm leaves FILE.bin, AS FILE.s -o FILE.o an ELF object. The bytes go back through the
 //! published crate's decoder, and the record there is held to the record that the line came from:
-//! operands, segments, and where a branch goes, in both modes.
+//! operands and segments; of branches, in both modes, where they go and how long they are. Status 1: asmc gives an
+//! accepted mode 1 branch another target, or another length where no byte of the record is needless; or GNU as, which
+//! passes over the words, another target.
 
+#[path = "branches.rs"]
+mod branches;
 #[path = "elf.rs"]
 mod elf;
 #[path = "record_of.rs"]
 mod record_of;
 
-use oracle::{line_into, name_of, Record, Sink};
+use branches::{edges, target, wraps, Table};
+use oracle::{is_branch, line_into, name_of, Record, Sink};
 use record_of::record_of;
 use std::collections::{BTreeMap, BTreeSet, HashMap};
 use std::process::{Command, Stdio};
@@ -47,30 +52,32 @@ fn main() {
     let sample = sample(&listing);
     let numbers: HashMap<String, u16> =
         (0..154).map(|number| (name_of(number).to_uppercase(), number)).collect();
-    // a line once, with the first record that prints it; branches in both modes
-    let mut asked: Vec<(Record, u32, String)> = Vec::new();
+    // a line once, with the first record that prints it; branches in both modes, once for each target and length
+    let mut asked: Vec<(Record, String)> = Vec::new();
+    let mut branches: Vec<Record> = Vec::new();
     let mut seen = BTreeSet::new();
-    for record in &sample {
-        let what = (is_branch(record).then(|| target(record)), elsewhere(record));
+    for record in sample.iter().chain(&edges()) {
+        let what = (is_branch(record).then(|| (target(record), record.length)), elsewhere(record));
         if !seen.insert((line(record, 1), what)) {
             continue;
         }
-        let (crate_line, straight) = (line(record, 0), line(record, 1));
-        if crate_line != straight {
-            asked.push((*record, 1, straight));
+        if is_branch(record) {
+            branches.push(*record);
+        } else {
+            asked.push((*record, line(record, 0)));
         }
-        asked.push((*record, 0, crate_line));
     }
     let opcodes: BTreeSet<u16> = sample.iter().map(|record| record.opcode).collect();
-    println!("{} records of {} opcodes, {} lines", sample.len(), opcodes.len(), asked.len());
+    println!("{} records of {} opcodes, {} lines; {} branches in each mode", sample.len(), opcodes.len(), asked.len(), branches.len());
+    let mut kept = true;
     for (judge, program) in [(Judge::Asmc, asmc), (Judge::As, gas)] {
         if program == "-" {
             println!("\n{judge:?}: not run");
             continue;
         }
         let mut table: BTreeMap<String, Vec<(String, String)>> = BTreeMap::new();
-        for (record, mode, line) in &asked {
-            let (verdict, seen) = verdict(judge, folder, program, record, *mode, line, &numbers);
+        for (record, line) in &asked {
+            let (verdict, seen) = verdict(judge, folder, program, record, line, &numbers);
             table.entry(verdict).or_default().push((line.clone(), seen));
         }
         println!("\n{judge:?}");
@@ -83,7 +90,7 @@ fn main() {
             }
             println!("\n{judge:?}, {verdict}:");
             let mut names: BTreeMap<&str, usize> = BTreeMap::new();
-            let few = verdict.contains("target") || verdict.contains("refused, a lone");
+            let few = verdict.contains("refused, a lone");
             for (at, (line, seen)) in lines.iter().enumerate() {
                 let name = line.split(' ').next().unwrap_or("");
                 let before = names.entry(name).or_default();
@@ -95,7 +102,18 @@ fn main() {
             let names: Vec<String> = names.iter().map(|(name, count)| format!("{name} {count}")).collect();
             println!("  = {}", names.join(", "));
         }
+        for mode in [0, 1] {
+            let mut table = Table::default();
+            for record in &branches {
+                let line = line(record, mode);
+                table.add(record, &line, branch(judge, folder, program, record, &line, &numbers));
+            }
+            println!("\n{judge:?}, branches in mode {mode}");
+            table.print();
+            kept &= mode == 0 || table.keeps(judge == Judge::Asmc);
+        }
     }
+    std::process::exit(if kept { 0 } else { 1 })
 }
 
 /// The line of an accepted record.
@@ -103,14 +121,6 @@ fn line(record: &Record, mode: u32) -> String {
     let mut out = Sink::default();
     line_into(&record.body(), mode, &mut out).expect("000 prints what document 01 accepts");
     String::from_utf8_lossy(&out.0).into_owned()
-}
-
-fn short_wraps(record: &Record) -> bool {
-    is_branch(record) && line(record, 0) != line(record, 1)
-}
-
-fn is_branch(record: &Record) -> bool {
-    record.opcode < 23 && record.count > 0 && matches!(record.slots[0].kind, 3 | 5)
 }
 
 /// Memory in fs or gs, which no address has by itself.
@@ -131,7 +141,7 @@ fn sample(listing: &[u8]) -> Vec<Record> {
         if line_into(body, 0, &mut out) != Ok(0) {
             continue;
         }
-        let wraps = short_wraps(&record);
+        let wraps = wraps(&record);
         let elsewhere = elsewhere(&record);
         let most = if wraps { WRAPPED } else if elsewhere { ELSEWHERE } else { OF_AN_OPCODE };
         let mut form = vec![record.mem_size, wraps as u8, record.flags & 31];
@@ -165,8 +175,6 @@ fn form(line: &str) -> &'static str {
     let lone = line.split('[').skip(1).any(|inside| inside.split(']').next().is_some_and(|inside| !inside.contains('e') && !inside.contains(' ') && inside.starts_with(|first: char| first.is_ascii_digit())));
     if lone && !line.contains(":[") {
         "a lone number in a bracket, no segment"
-    } else if matches!(word, "jecxz" | "loop" | "loopz" | "loopnz") {
-        "a branch with one byte for its distance"
     } else if matches!(word, "xacquire" | "xrelease" | "lock" | "rep" | "repne") {
         "a prefix word"
     } else if line.contains(":[") {
@@ -176,45 +184,24 @@ fn form(line: &str) -> &'static str {
     }
 }
 
-/// Where a branch goes, from its first byte on.
-fn target(record: &Record) -> u32 {
-    let distance = if record.slots[0].kind == 3 { record.imm as i8 as u32 } else { record.imm };
-    distance.wrapping_add(record.length as u32)
-}
-
 fn verdict(
-    judge: Judge, folder: &str, program: &str, record: &Record, mode: u32, line: &str, numbers: &HashMap<String, u16>,
+    judge: Judge, folder: &str, program: &str, record: &Record, line: &str, numbers: &HashMap<String, u16>,
 ) -> (String, String) {
     let (bytes, how) = match assemble(judge, folder, program, line) {
         Read::Refused(why) => return (format!("refused, {}", form(line)), why),
         Read::Assumed(bytes) => (bytes, ", once fs and gs are assumed nothing"),
         Read::Bytes(bytes) => (bytes, ""),
     };
-    let hex: String = bytes.iter().map(|byte| format!("{byte:02x}")).collect();
-    let Ok(instruction) = InstDecoder::default().decode_slice(&bytes) else {
-        return ("bytes that the crate does not decode".into(), hex);
+    let (back, text) = match decoded(&bytes, numbers) {
+        Ok(read) => read,
+        Err(other) => return other,
     };
-    let opcode = numbers.get(&format!("{:?}", instruction.opcode())).copied();
-    let Some((opcode, parts)) = opcode.zip(fields(&instruction)) else {
-        return ("another instruction".into(), format!("{hex} {instruction}"));
-    };
-    let back = record_of(opcode, &parts);
-    if parts.length as usize != bytes.len() {
-        return ("more than one instruction".into(), format!("{hex} {instruction}"));
-    }
-    if is_branch(record) && is_branch(&back) && record.opcode == back.opcode {
-        return if target(record) == target(&back) {
-            (format!("as the record, a branch in mode {mode}{how}"), hex)
-        } else {
-            (format!("another target, mode {mode}"), format!("goes to {:+}, record {:+}", target(&back) as i32, target(record) as i32))
-        };
-    }
     let mut out = Sink::default();
     let read = match line_into(&back.body(), 1, &mut out) {
         Ok(0) => String::from_utf8_lossy(&out.0).into_owned(),
-        _ => instruction.to_string(),
+        _ => text,
     };
-    let seen = format!("{hex} {read}");
+    let seen = format!("{} {read}", hex(&bytes));
     if read != line {
         return (format!("another line, {}", form(line)), seen);
     }
@@ -223,6 +210,41 @@ fn verdict(
         return ("the record's fs or gs is gone".into(), seen);
     }
     (format!("as the record{how}"), seen)
+}
+
+/// The record of an assembled branch, or why there is none.
+fn branch(
+    judge: Judge, folder: &str, program: &str, record: &Record, line: &str, numbers: &HashMap<String, u16>,
+) -> Result<Record, String> {
+    let bytes = match assemble(judge, folder, program, line) {
+        Read::Refused(why) => return Err(why),
+        Read::Assumed(bytes) | Read::Bytes(bytes) => bytes,
+    };
+    match decoded(&bytes, numbers) {
+        Ok((back, _)) if is_branch(&back) && back.opcode == record.opcode => Ok(back),
+        Ok((_, text)) => Err(format!("another instruction : {} {text}", hex(&bytes))),
+        Err((verdict, seen)) => Err(format!("{verdict} : {seen}")),
+    }
+}
+
+/// The record of one instruction's bytes with the crate's own text of it, or a verdict with what was seen.
+fn decoded(bytes: &[u8], numbers: &HashMap<String, u16>) -> Result<(Record, String), (String, String)> {
+    let Ok(instruction) = InstDecoder::default().decode_slice(bytes) else {
+        return Err(("bytes that the crate does not decode".into(), hex(bytes)));
+    };
+    let seen = || format!("{} {instruction}", hex(bytes));
+    let opcode = numbers.get(&format!("{:?}", instruction.opcode())).copied();
+    let Some((opcode, parts)) = opcode.zip(fields(&instruction)) else {
+        return Err(("another instruction".into(), seen()));
+    };
+    if parts.length as usize != bytes.len() {
+        return Err(("more than one instruction".into(), seen()));
+    }
+    Ok((record_of(opcode, &parts), instruction.to_string()))
+}
+
+fn hex(bytes: &[u8]) -> String {
+    bytes.iter().map(|byte| format!("{byte:02x}")).collect()
 }
 
 fn assemble(judge: Judge, folder: &str, program: &str, line: &str) -> Read {

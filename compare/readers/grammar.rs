@@ -1,5 +1,5 @@
-//! Lines of a grammar of their own: numbers in all radixes, both cases, blanks, brackets side by side, signs, parentheses, prefixes and
-//! comments; and some of them damaged.
+//! Lines of a grammar of their own: numbers in all radixes, both cases, blanks, brackets side by side, signs, parentheses, widths,
+//! prefixes and comments; and some of them damaged.
 
 pub struct Random(pub u64);
 
@@ -192,10 +192,22 @@ fn target(r: &mut Random) -> String {
     }
 }
 
+/// A word before a target that says no width, or a width before what is no target.
+fn misplaced(r: &mut Random) -> String {
+    let width = r.of(&["short", "near ptr"]);
+    match r.below(5) {
+        0 => format!("{} $+{}", r.of(&["near", "short ptr"]), constant(r, 1)),
+        1 => format!("short dword ptr {}", target(r)),
+        2 => format!("short {}", memory(r)),
+        3 => format!("{width} {}", constant(r, 1)),
+        _ => format!("{width} {}", r.of(&["", "eax", "cx"])),
+    }
+}
+
 fn instruction(r: &mut Random) -> String {
     let comma = format!("{},{}", blank(r), blank(r));
     let general = r.of(&GENERAL);
-    match r.below(22) {
+    match r.below(24) {
         0 | 1 => format!("push {}", constant(r, 3)),
         2 => format!("mov {general}{comma}{}", constant(r, 3)),
         3 => format!("{} {general}{comma}{}", r.of(&["add", "sub", "cmp", "and", "xor"]), constant(r, 2)),
@@ -207,12 +219,14 @@ fn instruction(r: &mut Random) -> String {
         11 => format!("{} {}{comma}{}", r.of(&["cmp", "mov", "or"]), typed(r, &["dword", "byte", "word"]), constant(r, 1)),
         12 | 13 => format!("{} {}", r.of(&["jmp", "call", "jz", "jnb", "loop", "jecxz"]), target(r)),
         14 => format!("{} near ptr {}", r.of(&["jmp", "call", "jz"]), target(r)),
-        15 => format!("{} {}{comma}{general}", r.of(&["xchg", "test", "adc"]), r.of(&GENERAL)),
-        16 => format!("mov {}{comma}{}", r.of(&SMALL), if r.once_in(2) { r.of(&SMALL).into() } else { number(r, 7) }),
-        17 => format!("{} {}st{comma}st({})", r.of(&["fadd", "fmul"]), blank(r), r.below(8)),
-        18 => format!("{} xmm{}{comma}{}", r.of(&["movaps", "addps"]), r.below(8), if r.once_in(2) { format!("xmm{}", r.below(8)) } else { typed(r, &["xmmword", "oword"]) }),
-        19 => format!("{} {}", r.of(&["rep", "REPE", "repz", "repne", "repnz"]), r.of(&["movsb", "cmpsb", "scasb", "stosd"])),
-        20 => format!("lock inc {}", typed(r, &DWORD)),
+        15 => format!("{} short {}", r.of(&["jmp", "jnb", "loop", "jecxz", "call"]), target(r)),
+        16 => format!("jmp {}", misplaced(r)),
+        17 => format!("{} {}{comma}{general}", r.of(&["xchg", "test", "adc"]), r.of(&GENERAL)),
+        18 => format!("mov {}{comma}{}", r.of(&SMALL), if r.once_in(2) { r.of(&SMALL).into() } else { number(r, 7) }),
+        19 => format!("{} {}st{comma}st({})", r.of(&["fadd", "fmul"]), blank(r), r.below(8)),
+        20 => format!("{} xmm{}{comma}{}", r.of(&["movaps", "addps"]), r.below(8), if r.once_in(2) { format!("xmm{}", r.below(8)) } else { typed(r, &["xmmword", "oword"]) }),
+        21 => format!("{} {}", r.of(&["rep", "REPE", "repz", "repne", "repnz"]), r.of(&["movsb", "cmpsb", "scasb", "stosd"])),
+        22 => format!("lock inc {}", typed(r, &DWORD)),
         _ => format!("{} dword ptr {general}", r.of(&["inc", "neg", "push"])),
     }
 }

@@ -1,5 +1,5 @@
 //! Lines of an own grammar, read by the port of the reader, printed again in another form from what was read, and both assembled by asmc:
-//! the bytes have to be the same.
+//! the bytes have to be the same. Where a width was read, the distance in them has to have so many bits.
 //!
 //!     reader run ASMC FOLDER LINES SEED
 //!     reader stored LINES SEED
@@ -64,7 +64,10 @@ fn operand_forms(operand: &Operand) -> Vec<String> {
     match operand {
         Operand::Register(register) => vec![port::register_name(*register).into()],
         Operand::Immediate(n) => vec![format!("{n}"), format!("{}", *n as i32)],
-        Operand::Branch(near, target) => vec![format!("{}$ {}", if *near { "near ptr " } else { "" }, signed(*target))],
+        Operand::Branch(width, target) => {
+            let word = port::WIDTHS.iter().find(|w| Some(w.1) == *width).map_or(String::new(), |w| format!("{} ", w.0));
+            vec![format!("{word}$ {}", signed(*target))]
+        }
         Operand::Address(label, segment, counts, disp) => {
             let label = label.map_or(String::new(), |label| format!("{label} ptr "));
             let segment = segment.map_or(String::new(), |segment| format!("{}:", port::register_name(segment)));
@@ -82,6 +85,14 @@ fn operand_forms(operand: &Operand) -> Vec<String> {
 fn is_lone(reading: &Reading) -> bool {
     let Reading::Shows { operands, .. } = reading else { return false };
     operands.iter().any(|operand| matches!(operand, Operand::Address(_, None, counts, _) if counts.is_empty()))
+}
+
+/// The code ends in the distance, in as many bits as were read; true where no width was read.
+fn is_as_wide(reading: &Reading, code: &[u8]) -> bool {
+    let Reading::Shows { operands, .. } = reading else { return true };
+    let [Operand::Branch(Some(width), target)] = operands[..] else { return true };
+    let distance = target.wrapping_sub(code.len() as u32).to_le_bytes();
+    code.ends_with(&distance[..width / 8])
 }
 
 fn forms(reading: &Reading) -> Vec<String> {
@@ -172,6 +183,7 @@ fn run(asmc: &str, folder: &str, count: u64, seed: u64) {
                 (Reading::Refused, None) => {}
                 (Reading::Refused, Some(_)) => refused.push(line.clone()),
                 (Reading::Shows { .. }, None) => alone.push(line.clone()),
+                (Reading::Shows { .. }, Some(code)) if !is_as_wide(&reading, code) => misread.push(format!("{line}   has another width")),
                 (Reading::Shows { .. }, Some(_)) if is_lone(&reading) => lone += 1,
                 (Reading::Shows { .. }, Some(_)) => {
                     taken += 1;
@@ -221,7 +233,7 @@ fn of_antt(operand: &Operand) -> String {
     match operand {
         Operand::Register(r) => format!("register {r}"),
         Operand::Immediate(n) => format!("immediate {n}"),
-        Operand::Branch(near, target) => format!("branch {} {target}", option(near.then(|| "Near".into()))),
+        Operand::Branch(width, target) => format!("branch {} {target}", option(width.map(|width| width.to_string()))),
         Operand::Address(label, segment, counts, disp) => {
             let label = option(label.map(|label| label[..1].to_uppercase() + &label[1..]));
             let segment = option(segment.map(|segment| segment.to_string()));

@@ -233,11 +233,14 @@ const SYNONYMS: [(&str, &str); 8] = [
     ("oword", "xmmword"),
 ];
 
+/// The words before a branch target, each with the number of bits of the distance.
+pub const WIDTHS: [(&str, usize); 2] = [("short", 8), ("near ptr", 32)];
+
 #[derive(Clone, Debug, PartialEq, Eq)]
 pub enum Operand {
     Register(u8),
     Immediate(u32),
-    Branch(bool, u32),
+    Branch(Option<usize>, u32),
     Address(Option<&'static str>, Option<u8>, Vec<(u8, u128)>, u32),
 }
 
@@ -246,10 +249,7 @@ pub fn wrapped(number: i128) -> u32 {
 }
 
 fn operand(start: u32, ts: &[Token]) -> Option<Operand> {
-    let (near, ts) = match ts {
-        [Word(n), Word(p), rest @ ..] if n == "near" && p == "ptr" => (true, rest),
-        _ => (false, ts),
-    };
+    let (width, ts) = WIDTHS.iter().find_map(|w| Some((Some(w.1), ts.strip_prefix(&tokens(w.0)[..])?))).unwrap_or((None, ts));
     let (label, ts) = match ts {
         [Word(t), Word(p), rest @ ..] if p == "ptr" => {
             let t = SYNONYMS.iter().find(|s| s.0 == t).map_or(&t[..], |s| s.1);
@@ -257,7 +257,7 @@ fn operand(start: u32, ts: &[Token]) -> Option<Operand> {
         }
         _ => (None, ts),
     };
-    if let Some(r) = register(ts).filter(|_| !near) {
+    if let Some(r) = register(ts).filter(|_| width.is_none()) {
         return Some(Operand::Register(r));
     }
     let (segment, ts) = match ts {
@@ -269,11 +269,11 @@ fn operand(start: u32, ts: &[Token]) -> Option<Operand> {
     };
     let v = expression(ts)?;
     if v.bracket || segment.is_some() {
-        (!near && v.starts == 0).then(|| Operand::Address(label, segment, v.counts, wrapped(v.number)))
+        (width.is_none() && v.starts == 0).then(|| Operand::Address(label, segment, v.counts, wrapped(v.number)))
     } else if v.starts == 1 && label.is_none() {
-        Some(Operand::Branch(near, wrapped(i128::from(start) + v.number)))
+        Some(Operand::Branch(width, wrapped(i128::from(start) + v.number)))
     } else {
-        (v.starts == 0 && !near && label.is_none()).then(|| Operand::Immediate(wrapped(v.number)))
+        (v.starts == 0 && width.is_none() && label.is_none()).then(|| Operand::Immediate(wrapped(v.number)))
     }
 }
 

@@ -2,9 +2,9 @@
 
 use super::*;
 
-/// "Branches in two modes".
+/// "Branches in two modes", with W-202's words for mode 1.
 pub(super) fn branches(rows: &mut Rows) {
-    rows.section("Relative branches of kind 3: distance and length added in 8 bits in mode 0, whole in mode 1");
+    rows.section("Relative branches of kind 3: distance and length added in 8 bits in mode 0; whole, with `short`, in mode 1");
     let short = |distance: i64| op("jmp", &[I8]).imm(distance).long(2);
     for distance in [125, 126, 127, 128, -128, -129, -2, -3, 0, 7, 8, 32767, 32768, -32768, 0x1234567E] {
         rows.record(short(distance));
@@ -12,10 +12,10 @@ pub(super) fn branches(rows: &mut Rows) {
     for distance in [112, 113, 127, -128, -15] {
         rows.record(short(distance).long(15));
     }
-    rows.section("Relative branches of kind 5: in 32 bits; `near ptr` for sums from 128 to 255");
+    rows.section("Relative branches of kind 5: in 32 bits; `near ptr` for sums from 128 to 255 in mode 0, at every sum in mode 1");
     let long = |distance: i64| op("jmp", &[I32]).imm(distance).long(5);
     for distance in [
-        122, 123, 127, 128, 250, 251, -128, -129, -5, -6, 4, 5, 32767, 32768, -32768, -32769, 2147483642, 2147483643, 2147483647,
+        20, 122, 123, 127, 128, 250, 251, -128, -129, -5, -6, 4, 5, 32767, 32768, -32768, -32769, 2147483642, 2147483643, 2147483647,
         -2147483648,
     ] {
         rows.record(long(distance));
@@ -24,14 +24,25 @@ pub(super) fn branches(rows: &mut Rows) {
     let all: Vec<&str> = (0..22).map(name_of).collect();
     rows.arm(
         &all,
-        &[op("jmp", &[I8, m(EAX)]).imm(0x7E).long(2), op("jmp", &[I32]).imm(0x9A).long(6)],
+        &[
+            op("jmp", &[I8, m(EAX)]).imm(0x7E).long(2),
+            op("jmp", &[I32]).imm(0x9A).long(6),
+            op("jmp", &[I32, r(EAX)]).imm(0x14).long(5),
+        ],
         &[
             op("jmp", &[I8]).imm(-7).long(2),
             op("jmp", &[I8, m(EAX), at(ECX)]).imm(0x18).long(2).flags(LOCK),
             op("jmp", &[I32, at(EAX), I8, r(EDX)]).imm(-0x1000005).long(6),
         ],
     );
-    rows.section("Branches with another operand 0: the general path");
+    rows.section("CALL, which has no short form: in mode 1 no word, whatever the kind and the sum");
+    for distance in [125, 126, 127, -2, -128] {
+        rows.record(op("call", &[I8]).imm(distance).long(2));
+    }
+    for distance in [-6, 20, 122, 123, 250, 251, 2147483647] {
+        rows.record(op("call", &[I32]).imm(distance).long(5));
+    }
+    rows.section("Branches with another operand 0, and JMPF and CALLF, which are none: the general path");
     for record in [
         op("jmp", &[]),
         op("jmp", &[r(EAX)]),
@@ -42,14 +53,19 @@ pub(super) fn branches(rows: &mut Rows) {
         op("jo", &[U16]).imm(0xABCD),
         op("jz", &[U32]).imm(0x80000000),
         op("jg", &[dword()]).size(4).disp(0x1234),
+        op("jmp", &[U32]).imm(20).long(5),
+        op("call", &[U32]).imm(123).long(5),
+        op("jmpf", &[I32]).imm(123).long(5),
+        op("callf", &[I8]).imm(126).long(2),
     ] {
         rows.record(record);
     }
-    rows.section("XBEGIN: a branch with kind 5 alone");
+    rows.section("XBEGIN: a branch with kind 5 alone, with no word in mode 1");
     for record in [
         op("xbegin", &[I32]).long(6),
         op("xbegin", &[I32]).imm(121).long(6).flags(REP),
         op("xbegin", &[I32, r(EAX)]).imm(122).long(6),
+        op("xbegin", &[I32]).imm(249).long(6),
         op("xbegin", &[I32]).imm(250).long(6),
         op("xbegin", &[I32]).imm(-7).long(6),
         op("xbegin", &[I8]).imm(126).long(2),

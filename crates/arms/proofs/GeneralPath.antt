@@ -48,7 +48,7 @@ same-if-left false x y = refl
 -- the arms with one label for all operands and their own segments, wherever they are left to the general path
 abbrev pub alike : List Arm
 alike =
-    arms.General ∷ arms.Qword ∷ arms.Mmword ∷ arms.Cmps ∷ arms.Branch ∷ arms.Xbegin ∷ arms.Feni ∷ arms.Fdisi ∷ arms.Fsetpm ∷ arms.Hreset ∷ arms.Lsl ∷ arms.Prefetch ∷ arms.Sgdt ∷ arms.Lss ∷ arms.Nop ∷
+    arms.General ∷ arms.Qword ∷ arms.Mmword ∷ arms.Cmps ∷ arms.Branch ∷ arms.Call ∷ arms.Xbegin ∷ arms.Feni ∷ arms.Fdisi ∷ arms.Fsetpm ∷ arms.Hreset ∷ arms.Lsl ∷ arms.Prefetch ∷ arms.Sgdt ∷ arms.Lss ∷ arms.Nop ∷
     arms.Monitor ∷ arms.Mwait ∷ arms.Invlpgb ∷ arms.Rdpru ∷ arms.Scas ∷ arms.Lods ∷ arms.Psmash ∷ arms.Pvalidate ∷ arms.Incssp ∷ arms.Wrss ∷ arms.Pblendvb ∷ arms.Lea ∷ arms.Pushf ∷ arms.Aam ∷
     arms.Fcom ∷ arms.Fadd ∷ arms.Fbld ∷ arms.Fbstp ∷ []
 
@@ -94,6 +94,9 @@ module _ (i : Instruction) where
   pub path-of-branch : generalPath arms.Branch i ≡ not (isBranch (i .a))
   path-of-branch = simp or-false
 
+  pub path-of-call : generalPath arms.Call i ≡ not (isBranch (i .a))
+  path-of-call = simp or-false
+
   pub path-of-xbegin : generalPath arms.Xbegin i ≡ not (isXbegin (i .a))
   path-of-xbegin = simp or-false
 
@@ -119,6 +122,7 @@ module _ (i : Instruction) where
   general-plan arms.Movs e = refl
   general-plan arms.Cmps e = refl
   general-plan arms.Branch e = left (isBranch (i .a)) (one place.Branch) (generalPlan i) (sym path-of-branch ∙ e)
+  general-plan arms.Call e = left (isBranch (i .a)) (one place.Branch) (generalPlan i) (sym path-of-call ∙ e)
   general-plan arms.Xbegin e = left (isXbegin (i .a)) (one place.Branch) (generalPlan i) (sym path-of-xbegin ∙ e)
   general-plan arms.Feni e = cc
   general-plan arms.Fdisi e = cc
@@ -160,11 +164,14 @@ module _ (i : Instruction) where
   own-by : (v : Plan) (arm : Arm) (t : Bool) → generalPath arm i ≡ t → cond t v (planOf arm i) ≡ v → OwnPlan v arm
   own-by v arm t e k = ap (λ (u : Bool). cond u v (planOf arm i)) e ∙ k
 
-  pub own-branch : Each (OwnPlan (one place.Branch)) (arms.Branch ∷ arms.Xbegin ∷ [])
+  pub own-branch : Each (OwnPlan (one place.Branch)) (arms.Branch ∷ arms.Call ∷ arms.Xbegin ∷ [])
   unfolding planOf
   own-branch = (
     own-by (one place.Branch) arms.Branch (not (isBranch (i .a))) path-of-branch (same-if-held (isBranch (i .a)) (one place.Branch) (generalPlan i)),
-    (own-by (one place.Branch) arms.Xbegin (not (isXbegin (i .a))) path-of-xbegin (same-if-held (isXbegin (i .a)) (one place.Branch) (generalPlan i)), tt),
+    (
+      own-by (one place.Branch) arms.Call (not (isBranch (i .a))) path-of-call (same-if-held (isBranch (i .a)) (one place.Branch) (generalPlan i)),
+      (own-by (one place.Branch) arms.Xbegin (not (isXbegin (i .a))) path-of-xbegin (same-if-held (isXbegin (i .a)) (one place.Branch) (generalPlan i)), tt),
+    ),
   )
 
   pub own-lsl : (arm : Arm) → arm ≡ arms.Lsl → generalPath arm i ≡ false → planOf arm i ≡ two (plain 0) (named (lslSource (i .a) (i .b)))

@@ -11,6 +11,7 @@ use Rattle.operands.specs.declared.Items.{Items}
 use Rattle.operands.specs.declared.Label.{Label}
 use Rattle.operands.specs.declared.Label.the-variants.{None, Byte, Word, Dword, Qword, Xmmword, Ymmword, Zmmword, Mmword, Fword, Tbyte, Missing}
 use Rattle.branches.specs.declared.Mode.{Mode}
+use Rattle.names.specs.declared.Arm.{Arm}
 use Rattle.places.specs.declared.Place.{Place}
 use Rattle.places.specs.declared.Place.the-variants as place
 use Rattle.places.specs.declared.Plan.{Plan}
@@ -59,15 +60,15 @@ there-before-memory : (n : ℕ) (memory : Bool) → (eqb n 11 && memory) ≡ fal
 there-before-memory n true e = there-but-at-11 n (simp and-true at e)
 there-before-memory n false e = refl
 
-module _ (mode : Mode) (i : Instruction) where
-  pub labels-there : (p : Place) → placeLacks i p ≡ false → isMissing (itemAt mode i p .label) ≡ false
+module _ (mode : Mode) (arm : Arm) (i : Instruction) where
+  pub labels-there : (p : Place) → placeLacks i p ≡ false → isMissing (itemAt mode arm i p .label) ≡ false
   unfolding itemAt operandShown
   labels-there place.Nothing e = refl
   labels-there (place.Register reg) e = refl
   labels-there place.Branch e = refl
   labels-there (place.Operand k label segment short) e = there-before-memory label (isMemory (operandIn i k)) e
 
-  pub plan-labels-there : (plan : Plan) → planLacks i plan ≡ false → lacksLabel (itemsAt mode i plan) ≡ false
+  pub plan-labels-there : (plan : Plan) → planLacks i plan ≡ false → lacksLabel (itemsAt mode arm i plan) ≡ false
   unfolding planLacks itemsAt
   plan-labels-there plan e =
       rw (

@@ -173,6 +173,7 @@ plan-lacking arms.Lds i s = lacking-general (byRegisters i false true) i ∙ sim
 plan-lacking arms.Movs i s = lacking-path (hasVector i) false false UnlessDs i ∙ simp or-false
 plan-lacking arms.Cmps i s = lacking-general-plan i ∙ simp or-false
 plan-lacking arms.Branch i s = lacking-else i (isBranch (i .a)) (one place.Branch) refl ∙ simp or-false
+plan-lacking arms.Call i s = lacking-else i (isBranch (i .a)) (one place.Branch) refl ∙ simp or-false
 plan-lacking arms.Xbegin i s = lacking-else i (isXbegin (i .a)) (one place.Branch) refl ∙ simp or-false
 plan-lacking arms.Feni i s = refl
 plan-lacking arms.Fdisi i s = refl

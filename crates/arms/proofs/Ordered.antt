@@ -61,14 +61,14 @@ register-there (Absolute16 segment address) e = refl
 register-there (Absolute32 segment address) e = refl
 register-there (Memory segment address) e = refl
 
-module _ (mode : Mode) (i : Instruction) where
+module _ (mode : Mode) (arm : Arm) (i : Instruction) where
   -- what a plan shows stands from the left
   abbrev Ordered : Plan → Type 0
-  Ordered plan = fromTheLeft (itemsAt mode i plan) ≡ true
+  Ordered plan = fromTheLeft (itemsAt mode arm i plan) ≡ true
 
   -- a place shows something
   abbrev Shows : Place → Type 0
-  Shows p = isNothing (itemAt mode i p .shown) ≡ false
+  Shows p = isNothing (itemAt mode arm i p .shown) ≡ false
 
   operand-shows : (k label : ℕ) (segment : Segment) (short : Bool) → isAbsent (operandIn i k) ≡ false → Shows (place.Operand k label segment short)
   unfolding itemAt operandShown
@@ -76,7 +76,7 @@ module _ (mode : Mode) (i : Instruction) where
 
   ordered-one : (x : Place) → Ordered (one x)
   unfolding itemsAt itemAt
-  ordered-one x = rw (or-true (not (isNothing (itemAt mode i x .shown))))
+  ordered-one x = rw (or-true (not (isNothing (itemAt mode arm i x .shown))))
 
   ordered-two : (x y : Place) → Shows x → Ordered (two x y)
   unfolding itemsAt itemAt
@@ -119,52 +119,53 @@ pub from-the-left :
     (mode : Mode) (arm : Arm) (i : Instruction) →
     counted i ≡ true →
     shapeRefused arm i ≡ false →
-    fromTheLeft (itemsAt mode i (planOf arm i)) ≡ true
+    fromTheLeft (itemsAt mode arm i (planOf arm i)) ≡ true
 unfolding planOf itemsAt itemAt
-from-the-left mode arms.General i e s = ordered-general-plan mode i e
-from-the-left mode arms.Qword i e s = ordered-general mode i e never
-from-the-left mode arms.Mmword i e s = ordered-general mode i e always
-from-the-left mode arms.Jmpf i e s = ordered-general mode i e (byRegisters i true false)
-from-the-left mode arms.Callf i e s = ordered-general mode i e (byRegisters i true false)
-from-the-left mode arms.Lds i e s = ordered-general mode i e (byRegisters i false true)
-from-the-left mode arms.Movs i e s = ordered-spread mode i e (movsLabel i) (movsLabel i) UnlessDs
-from-the-left mode arms.Cmps i e s = ordered-general-plan mode i e
-from-the-left mode arms.Branch i e s = ordered-else mode i e (isBranch (i .a)) (one place.Branch) (ordered-one mode i place.Branch)
-from-the-left mode arms.Xbegin i e s = ordered-else mode i e (isXbegin (i .a)) (one place.Branch) (ordered-one mode i place.Branch)
+from-the-left mode arms.General i e s = ordered-general-plan mode arms.General i e
+from-the-left mode arms.Qword i e s = ordered-general mode arms.Qword i e never
+from-the-left mode arms.Mmword i e s = ordered-general mode arms.Mmword i e always
+from-the-left mode arms.Jmpf i e s = ordered-general mode arms.Jmpf i e (byRegisters i true false)
+from-the-left mode arms.Callf i e s = ordered-general mode arms.Callf i e (byRegisters i true false)
+from-the-left mode arms.Lds i e s = ordered-general mode arms.Lds i e (byRegisters i false true)
+from-the-left mode arms.Movs i e s = ordered-spread mode arms.Movs i e (movsLabel i) (movsLabel i) UnlessDs
+from-the-left mode arms.Cmps i e s = ordered-general-plan mode arms.Cmps i e
+from-the-left mode arms.Branch i e s = ordered-else mode arms.Branch i e (isBranch (i .a)) (one place.Branch) (ordered-one mode arms.Branch i place.Branch)
+from-the-left mode arms.Call i e s = ordered-else mode arms.Call i e (isBranch (i .a)) (one place.Branch) (ordered-one mode arms.Call i place.Branch)
+from-the-left mode arms.Xbegin i e s = ordered-else mode arms.Xbegin i e (isXbegin (i .a)) (one place.Branch) (ordered-one mode arms.Xbegin i place.Branch)
 from-the-left mode arms.Feni i e s = refl
 from-the-left mode arms.Fdisi i e s = refl
 from-the-left mode arms.Fsetpm i e s = refl
-from-the-left mode arms.Hreset i e s = ordered-two mode i (plain 0) (named eax) (operand-shows mode i 0 0 Hidden false (sym (first-there i .0) ∙ s))
+from-the-left mode arms.Hreset i e s = ordered-two mode arms.Hreset i (plain 0) (named eax) (operand-shows mode arms.Hreset i 0 0 Hidden false (sym (first-there i .0) ∙ s))
 from-the-left mode arms.Lsl i e s =
     let source = named (lslSource (i .a) (i .b)) in
     let a-there = register-there (i .a) (neither-left _ _ (sym (at-lsl i) ∙ s)) in
-    ordered-else mode i e (isRegister (i .a) && isRegister (i .b)) (two (plain 0) source) (ordered-two mode i (plain 0) source (operand-shows mode i 0 0 Hidden false a-there))
-from-the-left mode arms.Prefetch i e s = ordered-one mode i (plain 0)
-from-the-left mode arms.Sgdt i e s = ordered-one mode i (labelled Fword Hidden 0)
+    ordered-else mode arms.Lsl i e (isRegister (i .a) && isRegister (i .b)) (two (plain 0) source) (ordered-two mode arms.Lsl i (plain 0) source (operand-shows mode arms.Lsl i 0 0 Hidden false a-there))
+from-the-left mode arms.Prefetch i e s = ordered-one mode arms.Prefetch i (plain 0)
+from-the-left mode arms.Sgdt i e s = ordered-one mode arms.Sgdt i (labelled Fword Hidden 0)
 from-the-left mode arms.Lss i e s =
-    ordered-two mode i (plain 0) (labelled (lssLabel (i .size)) Hidden 1) (operand-shows mode i 0 0 Hidden false (neither-left (isAbsent (i .a)) _ (sym (at-lss i) ∙ s)))
-from-the-left mode arms.Nop i e s = ordered-either mode i (isAbsent (i .b)) (generalPlan i) none (ordered-general-plan mode i e) refl
+    ordered-two mode arms.Lss i (plain 0) (labelled (lssLabel (i .size)) Hidden 1) (operand-shows mode arms.Lss i 0 0 Hidden false (neither-left (isAbsent (i .a)) _ (sym (at-lss i) ∙ s)))
+from-the-left mode arms.Nop i e s = ordered-either mode arms.Nop i (isAbsent (i .b)) (generalPlan i) none (ordered-general-plan mode arms.Nop i e) refl
 from-the-left mode arms.Monitor i e s = refl
 from-the-left mode arms.Mwait i e s = refl
-from-the-left mode arms.Invlpgb i e s = ordered-two mode i (plain 0) (plain 2) (operand-shows mode i 0 0 Hidden false (neither-left (isAbsent (i .a)) _ (sym (at-invlpgb i) ∙ s)))
+from-the-left mode arms.Invlpgb i e s = ordered-two mode arms.Invlpgb i (plain 0) (plain 2) (operand-shows mode arms.Invlpgb i 0 0 Hidden false (neither-left (isAbsent (i .a)) _ (sym (at-invlpgb i) ∙ s)))
 from-the-left mode arms.Rdpru i e s = refl
-from-the-left mode arms.Scas i e s = ordered-one mode i (labelled (sizeLabel (i .size)) Own 0)
-from-the-left mode arms.Lods i e s = ordered-one mode i (labelled (sizeLabel (i .size)) Hidden 1)
+from-the-left mode arms.Scas i e s = ordered-one mode arms.Scas i (labelled (sizeLabel (i .size)) Own 0)
+from-the-left mode arms.Lods i e s = ordered-one mode arms.Lods i (labelled (sizeLabel (i .size)) Hidden 1)
 from-the-left mode arms.Psmash i e s = refl
 from-the-left mode arms.Pvalidate i e s = refl
-from-the-left mode arms.Incssp i e s = ordered-general-plan mode i e
-from-the-left mode arms.Wrss i e s = ordered-general-plan mode i e
+from-the-left mode arms.Incssp i e s = ordered-general-plan mode arms.Incssp i e
+from-the-left mode arms.Wrss i e s = ordered-general-plan mode arms.Wrss i e
 from-the-left mode arms.Pblendvb i e s =
     let there = sym (both-there i .0) ∙ s in
-    ordered-three mode i (plain 0) (labelled (sizeLabel (i .size)) Own 1) (named xmm0) (operand-shows mode i 0 0 Hidden false (neither-left (isAbsent (i .a)) (isAbsent (i .b)) there))
-    (operand-shows mode i 1 _ Own false (neither-right (isAbsent (i .a)) (isAbsent (i .b)) there))
-from-the-left mode arms.Lea i e s = ordered-two mode i (plain 0) (plain 1) (operand-shows mode i 0 0 Hidden false (neither-left (isAbsent (i .a)) _ (sym (both-there i .1 .0) ∙ s)))
+    ordered-three mode arms.Pblendvb i (plain 0) (labelled (sizeLabel (i .size)) Own 1) (named xmm0) (operand-shows mode arms.Pblendvb i 0 0 Hidden false (neither-left (isAbsent (i .a)) (isAbsent (i .b)) there))
+    (operand-shows mode arms.Pblendvb i 1 _ Own false (neither-right (isAbsent (i .a)) (isAbsent (i .b)) there))
+from-the-left mode arms.Lea i e s = ordered-two mode arms.Lea i (plain 0) (plain 1) (operand-shows mode arms.Lea i 0 0 Hidden false (neither-left (isAbsent (i .a)) _ (sym (both-there i .1 .0) ∙ s)))
 from-the-left mode arms.Pushf i e s = refl
-from-the-left mode arms.Aam i e s = ordered-else mode i e (eqb (i .imm) 10) none refl
-from-the-left mode arms.Fcom i e s = ordered-one mode i (labelled (sizeLabel (i .size)) Own 1)
-from-the-left mode arms.Fadd i e s = ordered-fadd mode i (neither-left _ _ (neither-left _ _ (sym (at-fadd i) ∙ s)))
-from-the-left mode arms.Fbld i e s = ordered-one mode i (place.Operand 1 (labelNumber (tbyteLabel (i .size))) Own true)
-from-the-left mode arms.Fbstp i e s = ordered-one mode i (labelled (tbyteLabel (i .size)) Own 0)
+from-the-left mode arms.Aam i e s = ordered-else mode arms.Aam i e (eqb (i .imm) 10) none refl
+from-the-left mode arms.Fcom i e s = ordered-one mode arms.Fcom i (labelled (sizeLabel (i .size)) Own 1)
+from-the-left mode arms.Fadd i e s = ordered-fadd mode arms.Fadd i (neither-left _ _ (neither-left _ _ (sym (at-fadd i) ∙ s)))
+from-the-left mode arms.Fbld i e s = ordered-one mode arms.Fbld i (place.Operand 1 (labelNumber (tbyteLabel (i .size))) Own true)
+from-the-left mode arms.Fbstp i e s = ordered-one mode arms.Fbstp i (labelled (tbyteLabel (i .size)) Own 0)
 
 -- after a place that is not before the count stands none that is
 before-count : (k n : ℕ) → (not (not (ltb k n)) || not (ltb (suc k) n)) ≡ true
@@ -185,5 +186,5 @@ body-counted body =
 pub body-from-the-left :
     (mode : Mode) (arm : Arm) (body : List ℕ) →
     shapeRefused arm (instructionOf body) ≡ false →
-    fromTheLeft (itemsAt mode (instructionOf body) (planOf arm (instructionOf body))) ≡ true
+    fromTheLeft (itemsAt mode arm (instructionOf body) (planOf arm (instructionOf body))) ≡ true
 body-from-the-left mode arm body s = from-the-left mode arm (instructionOf body) (body-counted body) s

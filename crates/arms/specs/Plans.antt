@@ -28,6 +28,7 @@ use Rattle.names.specs.declared.Arm.the-variants.{
   Movs,
   Cmps,
   Branch,
+  Call,
   Xbegin,
   Feni,
   Fdisi,
@@ -151,6 +152,7 @@ planOf Lds i = general (byRegisters i false true) (i .size)
 planOf Movs i = spread (movsLabel i) (movsLabel i) UnlessDs
 planOf Cmps i = generalPlan i
 planOf Branch i = cond (isBranch (i .a)) (one place.Branch) (generalPlan i)
+planOf Call i = cond (isBranch (i .a)) (one place.Branch) (generalPlan i)
 planOf Xbegin i = cond (isXbegin (i .a)) (one place.Branch) (generalPlan i)
 -- a name alone
 planOf Feni i = none

@@ -18,6 +18,7 @@ use Rattle.names.specs.declared.Arm.the-variants.{
   Movs,
   Cmps,
   Branch,
+  Call,
   Xbegin,
   Lsl,
   Lss,
@@ -51,7 +52,7 @@ generalRefused first later i =
 abbrev pub generalPath : Arm → Instruction → Bool
 generalPath arm i =
     isOneOf arm (General ∷ Qword ∷ Mmword ∷ Jmpf ∷ Callf ∷ Lds ∷ Movs ∷ Cmps ∷ Incssp ∷ Wrss ∷ [])
-    || isArm arm Branch && not (isBranch (i .a))
+    || isOneOf arm (Branch ∷ Call ∷ []) && not (isBranch (i .a))
     || isArm arm Xbegin && not (isXbegin (i .a))
     || isArm arm Lsl && not (isRegister (i .a) && isRegister (i .b))
     || isArm arm Nop && isAbsent (i .b)

@@ -168,7 +168,7 @@ fn own(arm: Arm, body: &[u8], size: u8) -> Plan
     ensures { λ r. ⌜ r ≡ planOf arm (instructionOf (now (body .entry))) ⌝ }
 {
     match arm {
-        Arm::Branch | Arm::Xbegin => one(Place::Branch),
+        Arm::Branch | Arm::Call | Arm::Xbegin => one(Place::Branch),
         Arm::Hreset => two(plain(0), Place::Register(EAX)),
         Arm::Lsl => two(plain(0), Place::Register(lsl_source(body))),
         Arm::Prefetch => one(plain(0)),

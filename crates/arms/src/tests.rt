@@ -65,7 +65,7 @@ pub fn is_general(arm: Arm, body: &[u8]) -> bool
         | Arm::Cmps
         | Arm::Incssp
         | Arm::Wrss => true,
-        Arm::Branch => {
+        Arm::Branch | Arm::Call => {
             let kind = immediate_kind_at(body, 0);
             !((kind == I8) | (kind == I32))
         }

@@ -1,3 +1,4 @@
 pub mod Sums
+pub mod Words
 pub mod Compared
 pub mod Wrapping

@@ -1,19 +1,13 @@
 -- The branch sums in the form that the code computes: unsigned sums, and sizes counted back from 2 ^ w.
 -- Assumes nothing.
-use mathlib.Core.Path.{_≡_, refl, sym, ap, _∙_}
-use mathlib.Core.Bool.{Bool, true, false, _&&_, and-false}
+use mathlib.Core.Path.{_≡_, ap, _∙_}
+use mathlib.Core.Bool.{true, false}
 use Prim.Native.Nat.{ℕ, suc, _+_, _-_, _%_, _^_, _≤_, _<_}
 use native.Mathlib.Omega.{arith}
 use borrow.Author.Tests.{lt-ltb, le-ltb}
-use lib.Dec.{eqb, leb}
 use lib.IntN.{ℤ, pos, negsuc, _+ℤ_}
-use Rattle.operands.specs.declared.Shown.{Shown}
-use Rattle.operands.specs.declared.Shown.the-variants.{Branch}
-use Rattle.branches.specs.Sums.{signed, shownSum}
-
--- a sum below 0 is never `near`
-shown-negsuc : (kind m : ℕ) → shownSum kind (negsuc m) ≡ Branch false true (suc m)
-shown-negsuc kind m = rw (and-false (eqb kind 5))
+use Rattle.branches.specs.Sums.{signed}
+use Rattle.branches.specs.Code.{parts, parted}
 
 -- The lowest w bits of n are s.
 module _ (w n s : ℕ) (is : s ≡ n % 2 ^ w) where
@@ -22,8 +16,8 @@ module _ (w n s : ℕ) (is : s ≡ n % 2 ^ w) where
   unfolding signed
   signed-low low = rw (← is, lt-ltb _ _ low)
 
-  pub shown-low : (kind : ℕ) → s < 2 ^ (w - 1) → shownSum kind (signed w n) ≡ Branch (eqb kind 5 && (leb 128 s && leb s 255)) false s
-  shown-low kind low = ap (shownSum kind) (signed-low low)
+  pub parted-low : s < 2 ^ (w - 1) → parted (signed w n) ≡ parts false s
+  parted-low low = ap parted (signed-low low)
 
   -- from half on they stand for as much below 0 as is missing to 2 ^ w
   module _ (high : 2 ^ (w - 1) ≤ s) (below : s < 2 ^ w) where
@@ -31,9 +25,8 @@ module _ (w n s : ℕ) (is : s ≡ n % 2 ^ w) where
     unfolding signed
     signed-high = rw (← is, le-ltb _ _ high, lt-ltb _ _ below)
 
-    pub shown-high : (kind size : ℕ) → size ≡ 2 ^ w - s → shownSum kind (signed w n) ≡ Branch false true size
-    shown-high kind size missing =
-        ap (shownSum kind) signed-high ∙ shown-negsuc kind (2 ^ w - suc s) ∙ ap (Branch false true) (omega arith)
+    pub parted-high : (size : ℕ) → size ≡ 2 ^ w - s → parted (signed w n) ≡ parts true size
+    parted-high size missing = ap parted signed-high ∙ ap (parts true) (omega arith)
 
 -- The whole sum of mode 1, which is stated in ℤ.
 module _ (value length : ℕ) where
@@ -51,5 +44,5 @@ module _ (value length : ℕ) where
     pub whole-over : back ≤ length → signed 32 value +ℤ pos length ≡ pos (length - back)
     whole-over more = rw (distance-back, le-ltb length (suc (2 ^ 32 - suc value)) (omega arith)) (ap pos (omega arith))
 
-    pub shown-back : length < back → shownSum 3 (signed 32 value +ℤ pos length) ≡ Branch false true (back - length)
-    shown-back less = rw (whole-back less) (ap (Branch false true) (omega arith))
+    pub parted-back : length < back → parted (signed 32 value +ℤ pos length) ≡ parts true (back - length)
+    parted-back less = rw (whole-back less) (ap (parts true) (omega arith))

@@ -1,13 +1,19 @@
 -- Document 01, "Branches in two modes": what a branch operand shows, as a signed number and then as its sign and size.
 -- Assumes nothing.
 use mathlib.Core.Bool.{Bool, true, false, cond, _&&_}
+use mathlib.Core.List.{[], _∷_}
 use Prim.Native.Nat.{ℕ, suc, _+_, _-_, _%_, _^_}
 use lib.Dec.{eqb, leb}
 use lib.IntN.{ℤ, pos, negsuc, natAbs, _+ℤ_}
 unfoldable pub use Rattle.frames.specs.Numbers.{signed}
 use Rattle.operands.specs.Kinds.{i8, i32}
+use Rattle.operands.specs.declared.BranchWord.{BranchWord}
+use Rattle.operands.specs.declared.BranchWord.the-variants.{None, Short, Near}
 use Rattle.operands.specs.declared.Shown.{Shown}
 use Rattle.operands.specs.declared.Shown.the-variants.{Branch}
+use Rattle.names.specs.declared.Arm.{Arm}
+use Rattle.names.specs.declared.Arm.the-variants.{Call, Xbegin}
+use Rattle.names.specs.Among.{isOneOf}
 use Rattle.branches.specs.declared.Mode.{Mode}
 use Rattle.branches.specs.declared.Mode.the-variants.{Crate, Straight}
 
@@ -31,13 +37,27 @@ abbrev pub from128to255 : ℤ → Bool
 from128to255 (pos n) = leb 128 n && leb n 255
 from128to255 (negsuc n) = false
 
--- "print `$`, sign and numeral of distance plus length"; "kind 5 with a sum of 128 to 255 gets `near ptr ` in front"
-abbrev pub shownSum : ℕ → ℤ → Shown
-shownSum kind sum = Branch (eqb kind i32 && from128to255 sum) (below0 sum) (natAbs sum)
+-- mode 0: "kind 5 with a sum of 128 to 255 gets `near ptr ` in front"
+abbrev pub crateWord : ℕ → ℤ → BranchWord
+crateWord kind sum = cond (eqb kind i32 && from128to255 sum) Near None
 
--- what a branch operand shows: its kind, its distance as 32 bits, and the instruction's length
-unfoldable pub branchShown : Mode → ℕ → ℕ → ℕ → Shown
-branchShown mode kind value length = shownSum kind (branchSum mode kind value length)
+-- mode 1, of an opcode with a short form
+abbrev pub straightWord : ℕ → BranchWord
+straightWord kind = cond (eqb kind i32) Near (cond (eqb kind i8) Short None)
+
+-- The word before `$`, by mode, arm, kind and sum. Document 02, W-202: "In mode 1 a kind 5 branch prints `near ptr ` at all sums and a
+-- kind 3 one `short `, except that CALL and XBEGIN, which have no short form, print neither. Mode 0 stays the crate's."
+abbrev pub branchWord : Mode → Arm → ℕ → ℤ → BranchWord
+branchWord Crate arm kind sum = crateWord kind sum
+branchWord Straight arm kind sum = cond (isOneOf arm (Call ∷ Xbegin ∷ [])) None (straightWord kind)
+
+-- What a branch operand shows, by the arm that shows it, its kind, its distance as 32 bits, and the instruction's length: the word, and
+-- "`$`, sign and numeral of distance plus length".
+abbrev pub shownSum : Mode → Arm → ℕ → ℤ → Shown
+shownSum mode arm kind sum = Branch (branchWord mode arm kind sum) (below0 sum) (natAbs sum)
+
+unfoldable pub branchShown : Mode → Arm → ℕ → ℕ → ℕ → Shown
+branchShown mode arm kind value length = shownSum mode arm kind (branchSum mode kind value length)
 
 -- an integer modulo 2^32: below 0, what is missing to the next multiple of 2^32
 abbrev pub modulo : ℤ → ℕ

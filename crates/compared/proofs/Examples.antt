@@ -60,8 +60,8 @@ nop imm = body 80 1 0 (0 ∷ 0 ∷ 0 ∷ imm ∷ []) zeros (0 ∷ [])
 -- the lines of these records
 record Lines : Type 0 where
   pushed : recordLine straight push ≡ bytes "push 0FFFFFFFFh\n"
-  jump-126 : recordLine straight (jump 126) ≡ bytes "jmp $+80h\n"
-  jump-125 : recordLine straight (jump 125) ≡ bytes "jmp $+7Fh\n"
+  jump-126 : recordLine straight (jump 126) ≡ bytes "jmp short $+80h\n"
+  jump-125 : recordLine straight (jump 125) ≡ bytes "jmp short $+7Fh\n"
   nop-0 : recordLine straight (nop 0) ≡ bytes "nop\n"
   nop-1 : recordLine straight (nop 1) ≡ bytes "nop\n"
 
@@ -80,8 +80,8 @@ at number kind = record { number = number; kind = kind }
 kinds : comparison straight (listing (push ∷ jump 126 ∷ nop 0 ∷ push ∷ []) []) (listing (push ∷ jump 125 ∷ nop 1 ∷ []) [])
     ≡ join (
     bytes "record 1 differs\n"
-    ∷ bytes "  first:  jmp $+80h\n"
-    ∷ bytes "  second: jmp $+7Fh\n"
+    ∷ bytes "  first:  jmp short $+80h\n"
+    ∷ bytes "  second: jmp short $+7Fh\n"
     ∷ bytes "record 2 differs, same line\n"
     ∷ bytes "  both:   nop\n"
     ∷ bytes "record 3 only in the first\n"
@@ -96,8 +96,8 @@ kinds = λ i. reportText 0 (named (at 1 (kindOf (lines .jump-126 i) (lines .jump
 cut-second : comparison straight (listing (push ∷ jump 126 ∷ push ∷ []) []) (listing (push ∷ jump 125 ∷ []) (0 ∷ 14 ∷ []))
     ≡ join (
     bytes "record 1 differs\n"
-    ∷ bytes "  first:  jmp $+80h\n"
-    ∷ bytes "  second: jmp $+7Fh\n"
+    ∷ bytes "  first:  jmp short $+80h\n"
+    ∷ bytes "  second: jmp short $+7Fh\n"
     ∷ bytes "second: ; cut\n"
     ∷ bytes "differing records: 1\n"
     ∷ []

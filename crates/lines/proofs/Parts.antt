@@ -1,7 +1,7 @@
 -- The parts of an operand's text: their cases and their lengths.
 -- Assumes nothing.
 use mathlib.Core.Path.{_≡_, refl, sym, _∙_}
-use mathlib.Core.Bool.{Bool, true, false, cond}
+use mathlib.Core.Bool.{Bool, true, false}
 use mathlib.Core.List.{[], _++_}
 use Prim.Native.Nat.{ℕ, _+_, _<_, _≤_}
 use native.Mathlib.Nat.{add-assoc}
@@ -9,17 +9,17 @@ use native.Mathlib.Omega.{arith}
 use borrow.Author.Tests.{lt-ltb, le-ltb}
 use lib.IntN.{ℤ}
 use lib.ListN.{length, length-append}
-use Rattle.text.specs.Choice.{when}
 use Rattle.text.specs.Words.{bytes}
-use Rattle.text.proofs.Choosing.{length-when}
 use Rattle.numerals.specs.Digits.{digits}
 use Rattle.numerals.specs.Numerals.{numeral, displacement, absolute}
 use Rattle.names.specs.Registers.{segmentName}
 use Rattle.operands.specs.declared.Address.{Address}
+use Rattle.operands.specs.declared.BranchWord.{BranchWord}
+use Rattle.operands.specs.declared.BranchWord.the-variants as word
 use Rattle.operands.specs.declared.Item.{Item}
 use Rattle.lines.specs.Fronts.{labelText, segmentText}
 use Rattle.lines.specs.Brackets.{baseText, scaleText, indexText, tailText, bracketText}
-use Rattle.lines.specs.Items.{absoluteText, signText, branchText, shownText, itemText}
+use Rattle.lines.specs.Items.{absoluteText, signText, wordText, branchText, shownText, itemText}
 
 pub scale-shown : {s : ℕ} → 1 < s → scaleText s ≡ bytes " * " ++ digits 1 s
 unfolding scaleText
@@ -34,6 +34,16 @@ sign-minus e = rw e
 
 pub sign-plus : {minus : Bool} → minus ≡ false → signText minus ≡ bytes "$+"
 sign-plus e = rw e
+
+module _ {w : BranchWord} where
+  pub word-none : w ≡ word.None → wordText w ≡ []
+  word-none e = rw e
+
+  pub word-short : w ≡ word.Short → wordText w ≡ bytes "short "
+  word-short e = rw e
+
+  pub word-near : w ≡ word.Near → wordText w ≡ bytes "near ptr "
+  word-near e = rw e
 
 -- the tail as it is put, the displacement passed on as `e`
 pub tail-shown : {displaced : Bool} {d e : ℤ} → displaced ≡ true → e ≡ d → tailText displaced d ≡ bytes " " ++ (displacement e ++ bytes "]")
@@ -66,12 +76,12 @@ unfolding absoluteText
 absolute-length k address =
     length-append (bytes "[") (absolute k address ++ bytes "]") ∙ rw (length-append (absolute k address) (bytes "]")) (omega arith)
 
-pub branch-length : (near minus : Bool) (size : ℕ) → length (branchText near minus size) ≡ cond near 9 0 + 2 + length (numeral size)
+pub branch-length : (w : BranchWord) (minus : Bool) (size : ℕ) → length (branchText w minus size) ≡ length (wordText w) + 2 + length (numeral size)
 unfolding branchText
-branch-length near minus size =
-    length-append (when near (bytes "near ptr ")) (signText minus ++ numeral size)
-    ∙ rw (length-when near (bytes "near ptr "), length-append (signText minus) (numeral size), sign-length minus)
-    (sym (add-assoc (cond near 9 0) 2 (length (numeral size))))
+branch-length w minus size =
+    length-append (wordText w) (signText minus ++ numeral size)
+    ∙ rw (length-append (signText minus) (numeral size), sign-length minus)
+    (sym (add-assoc (length (wordText w)) 2 (length (numeral size))))
   where
     sign-length : (minus : Bool) → length (signText minus) ≡ 2
     sign-length true = refl

@@ -20,6 +20,7 @@ use Rattle.operands.specs.Kinds.{isAbsent, isRegister, isMemory}
 use Rattle.operands.specs.Parts.{shownOf, segmentOf, immediateKind, immediateOf, bare}
 use Rattle.operands.specs.RegisterBytes.{st0}
 use Rattle.operands.specs.declared.Address.{Address}
+use Rattle.operands.specs.declared.BranchWord.{BranchWord}
 use Rattle.operands.specs.declared.Instruction.{Instruction}
 use Rattle.operands.specs.declared.Label.{Label}
 use Rattle.operands.specs.declared.Label.the-variants.{None}
@@ -131,27 +132,27 @@ module _ (label : ℕ) (segment : Segment) (short : Bool) where
       text-bracket {address} e = rw (e, is) (memory (operand.Memory own address) refl refl)
 
 -- what a place shows, case by case
-module _ (mode : Mode) (i : Instruction) {p : Place} where
-  pub place-nothing : p ≡ place.Nothing → itemText (itemAt mode i p) ≡ []
+module _ (mode : Mode) (arm : Arm) (i : Instruction) {p : Place} where
+  pub place-nothing : p ≡ place.Nothing → itemText (itemAt mode arm i p) ≡ []
   unfolding itemAt shownText
   place-nothing e = rw e (text-bare _)
 
-  pub place-register : {reg : ℕ} → p ≡ place.Register reg → itemText (itemAt mode i p) ≡ registerName reg
+  pub place-register : {reg : ℕ} → p ≡ place.Register reg → itemText (itemAt mode arm i p) ≡ registerName reg
   unfolding itemAt shownText
   place-register {reg} e = rw e (text-bare (Name reg))
 
-  pub place-branch : p ≡ place.Branch → itemText (itemAt mode i p) ≡ shownText (branchOf mode i)
+  pub place-branch : p ≡ place.Branch → itemText (itemAt mode arm i p) ≡ shownText (branchOf mode arm i)
   unfolding itemAt
-  place-branch e = rw e (text-bare (branchOf mode i))
+  place-branch e = rw e (text-bare (branchOf mode arm i))
 
 -- operand k at a place, as the code has it from the body
 pub place-operand :
-    (mode : Mode) (body : List ℕ) → countOf body ≤ 4 →
+    (mode : Mode) (arm : Arm) (body : List ℕ) → countOf body ≤ 4 →
     {p : Place} {k label : ℕ} {segment : Segment} {short : Bool} → p ≡ place.Operand k label segment short →
     {o : Operand} → o ≡ operandAt body k →
-    itemText (itemAt mode (instructionOf body) p) ≡ itemText (operandShown (labelAt label) segment short o)
+    itemText (itemAt mode arm (instructionOf body) p) ≡ itemText (operandShown (labelAt label) segment short o)
 unfolding itemAt
-place-operand mode body few {k = k} e is = rw (e, is, operand-in body few k)
+place-operand mode arm body few {k = k} e is = rw (e, is, operand-in body few k)
 
 -- an operand shows something exactly where it is there
 shows-operand : (short : Bool) (o : Operand) → shows (valueShown short o) ≡ not (isAbsent o)
@@ -168,31 +169,31 @@ shows-operand short (operand.Absolute32 segment address) = ap shows (unshortened
 shows-operand short (operand.Memory segment address) = ap shows (unshortened short (operand.Memory segment address) refl)
 
 -- whether a place shows something, case by case
-module _ (mode : Mode) (i : Instruction) {p : Place} where
-  pub shows-nothing : p ≡ place.Nothing → shows (itemAt mode i p .shown) ≡ false
+module _ (mode : Mode) (arm : Arm) (i : Instruction) {p : Place} where
+  pub shows-nothing : p ≡ place.Nothing → shows (itemAt mode arm i p .shown) ≡ false
   unfolding itemAt
   shows-nothing e = rw e
 
-  pub shows-register : {reg : ℕ} → p ≡ place.Register reg → shows (itemAt mode i p .shown) ≡ true
+  pub shows-register : {reg : ℕ} → p ≡ place.Register reg → shows (itemAt mode arm i p .shown) ≡ true
   unfolding itemAt
   shows-register e = rw e
 
-  pub shows-branch : p ≡ place.Branch → shows (itemAt mode i p .shown) ≡ true
+  pub shows-branch : p ≡ place.Branch → shows (itemAt mode arm i p .shown) ≡ true
   unfolding itemAt branchShown
   shows-branch e = rw e
 
 pub shows-stored :
-    (mode : Mode) (body : List ℕ) → countOf body ≤ 4 →
+    (mode : Mode) (arm : Arm) (body : List ℕ) → countOf body ≤ 4 →
     {p : Place} {k label : ℕ} {segment : Segment} {short : Bool} → p ≡ place.Operand k label segment short →
-    shows (itemAt mode (instructionOf body) p .shown) ≡ ltb k (countOf body)
+    shows (itemAt mode arm (instructionOf body) p .shown) ≡ ltb k (countOf body)
 unfolding itemAt operandShown
-shows-stored mode body few {k = k} {short = short} e =
+shows-stored mode arm body few {k = k} {short = short} e =
     rw (e, ← operand-in body few k)
     (shows-operand short (operandAt body k) ∙ (ap not (absent-from-count body k) ∙ Bool·not-not (ltb k (countOf body))))
 
 -- the branch as the code has it from the body: operand 0, its kind and its value, and the instruction's length
-module _ (mode : Mode) (body : List ℕ) {o : Operand} {kind value len : ℕ} {s : Shown} where
-  pub branch-is : o ≡ operandAt body 0 → kind ≡ immediateKind o → value ≡ immediateOf o → len ≡ lengthOf body → s ≡ branchShown mode kind value len → branchOf mode (instructionOf body) ≡ s
+module _ (mode : Mode) (arm : Arm) (body : List ℕ) {o : Operand} {kind value len : ℕ} {s : Shown} where
+  pub branch-is : o ≡ operandAt body 0 → kind ≡ immediateKind o → value ≡ immediateOf o → len ≡ lengthOf body → s ≡ branchShown mode arm kind value len → branchOf mode arm (instructionOf body) ≡ s
   unfolding instructionOf
   branch-is op k v l e = rw (e, k, v, l, op)
 
@@ -200,11 +201,11 @@ module _ (mode : Mode) (body : List ℕ) {o : Operand} {kind value len : ℕ} {s
 abbrev otherTags : List ℕ
 otherTags = 0 ∷ 1 ∷ 2 ∷ 3 ∷ 4 ∷ 5 ∷ 6 ∷ []
 
-pub branch-tag : (mode : Mode) (i : Instruction) {s : Shown} → branchOf mode i ≡ s → OneOf otherTags (tagOf the-type s) → ⊥
+pub branch-tag : (mode : Mode) (arm : Arm) (i : Instruction) {s : Shown} → branchOf mode arm i ≡ s → OneOf otherTags (tagOf the-type s) → ⊥
 unfolding branchShown
-branch-tag mode i e o = not-one-of 7 otherTags tt (subst (λ (x : Shown). OneOf otherTags (tagOf the-type x)) (sym e) o)
+branch-tag mode arm i e o = not-one-of 7 otherTags tt (subst (λ (x : Shown). OneOf otherTags (tagOf the-type x)) (sym e) o)
 
-pub text-branch : {s : Shown} {near minus : Bool} {size : ℕ} → s ≡ Branch near minus size → shownText s ≡ branchText near minus size
+pub text-branch : {s : Shown} {word : BranchWord} {minus : Bool} {size : ℕ} → s ≡ Branch word minus size → shownText s ≡ branchText word minus size
 unfolding shownText
 text-branch e = rw e
 
@@ -230,17 +231,17 @@ place-past plan (suc (suc zero)) h = absurd (omega arith)
 place-past plan (suc (suc (suc zero))) h = absurd (omega arith)
 place-past plan (suc (suc (suc (suc k)))) h = refl
 
-module _ (mode : Mode) (i : Instruction) (plan : Plan) where
+module _ (mode : Mode) (arm : Arm) (i : Instruction) (plan : Plan) where
   -- place k, and those after it
-  pub items-next : (k : ℕ) → k < 4 → itemsFrom k (itemsAt mode i plan) ≡ partedText (separatorAt k) (itemAt mode i (placeAt plan k)) ++ itemsFrom (k + 1) (itemsAt mode i plan)
+  pub items-next : (k : ℕ) → k < 4 → itemsFrom k (itemsAt mode arm i plan) ≡ partedText (separatorAt k) (itemAt mode arm i (placeAt plan k)) ++ itemsFrom (k + 1) (itemsAt mode arm i plan)
   unfolding itemsText itemsAt
   items-next zero h = refl
   items-next (suc zero) h = refl
   items-next (suc (suc zero)) h = refl
-  items-next (suc (suc (suc zero))) h = sym (append-nil (partedText (bytes ", ") (itemAt mode i (plan .d))))
+  items-next (suc (suc (suc zero))) h = sym (append-nil (partedText (bytes ", ") (itemAt mode arm i (plan .d))))
   items-next (suc (suc (suc (suc k)))) h = absurd (omega arith)
 
-  pub items-end : (k : ℕ) → 4 ≤ k → itemsFrom k (itemsAt mode i plan) ≡ []
+  pub items-end : (k : ℕ) → 4 ≤ k → itemsFrom k (itemsAt mode arm i plan) ≡ []
   items-end zero h = absurd (omega arith)
   items-end (suc zero) h = absurd (omega arith)
   items-end (suc (suc zero)) h = absurd (omega arith)
@@ -248,18 +249,18 @@ module _ (mode : Mode) (i : Instruction) (plan : Plan) where
   items-end (suc (suc (suc (suc k)))) h = refl
 
   -- place k as the code has it, and whether it shows something
-  module _ (k : ℕ) (h : k < 4) {p : Place} (there : p ≡ placeAt plan k) {shown : Bool} (is : shown ≡ shows (itemAt mode i p .shown)) where
+  module _ (k : ℕ) (h : k < 4) {p : Place} (there : p ≡ placeAt plan k) {shown : Bool} (is : shown ≡ shows (itemAt mode arm i p .shown)) where
     -- a place that shows something is put after what parts it
-    pub items-shown : not shown ≡ false → itemsFrom k (itemsAt mode i plan) ≡ separatorAt k ++ (itemText (itemAt mode i p) ++ itemsFrom (k + 1) (itemsAt mode i plan))
+    pub items-shown : not shown ≡ false → itemsFrom k (itemsAt mode arm i plan) ≡ separatorAt k ++ (itemText (itemAt mode arm i p) ++ itemsFrom (k + 1) (itemsAt mode arm i plan))
     unfolding partedText
     items-shown t =
         items-next k h
-        ∙ rw (← there, ← is, sym (Bool·not-not shown) ∙ ap not t) (append-assoc (separatorAt k) (itemText (itemAt mode i p)) (itemsFrom (k + 1) (itemsAt mode i plan)))
+        ∙ rw (← there, ← is, sym (Bool·not-not shown) ∙ ap not t) (append-assoc (separatorAt k) (itemText (itemAt mode arm i p)) (itemsFrom (k + 1) (itemsAt mode arm i plan)))
 
 -- the line of a body: its head, and its places after it
 pub line-by :
     (mode : Mode) (arm : Arm) (plan : Plan) (body : List ℕ) {opcode flags : ℕ} →
     opcode ≡ opcodeOf body → flags ≡ flagsOf body →
-    lineText (lineBy mode arm plan (instructionOf body)) ≡ headText (headOf arm opcode flags) ++ itemsText (itemsAt mode (instructionOf body) plan)
+    lineText (lineBy mode arm plan (instructionOf body)) ≡ headText (headOf arm opcode flags) ++ itemsText (itemsAt mode arm (instructionOf body) plan)
 unfolding lineText instructionOf
 line-by mode arm plan body o f = rw (o, f)

@@ -58,9 +58,9 @@ shares (suc (suc (suc zero))) h = lit≤ tt
 shares (suc (suc (suc (suc zero)))) h = lit≤ tt
 shares (suc (suc (suc (suc (suc count))))) h = absurd (omega arith)
 
-branch-shown-short : (mode : Mode) (i : Instruction) → length (shownText (branchOf mode i)) ≤ 21
+branch-shown-short : (mode : Mode) (arm : Arm) (i : Instruction) → length (shownText (branchOf mode arm i)) ≤ 21
 unfolding branchShown shownText
-branch-shown-short mode i = branch-short _ _ _
+branch-shown-short mode arm i = branch-short _ _ _
 
 -- no longer than what parts it and its item
 parted-most : (s : List ℕ) (i : Item) → length (partedText s i) ≤ length s + length (itemText i)
@@ -69,19 +69,19 @@ parted-most s i = omega (arith, parted-length s i, cond-most (shows (i .shown)) 
 parted-none : (s : List ℕ) (i : Item) → shows (i .shown) ≡ false → length (partedText s i) ≡ 0
 parted-none s i e = parted-length s i ∙ ap (λ (b : Bool). cond b (length s + length (itemText i)) 0) e
 
-module _ (mode : Mode) (body : List ℕ) (few : countOf body ≤ 4) (s : List ℕ) (parts : length s ≤ 2) (j : ℕ) where
+module _ (mode : Mode) (arm : Arm) (body : List ℕ) (few : countOf body ≤ 4) (s : List ℕ) (parts : length s ≤ 2) (j : ℕ) where
   abbrev textAt : Place → List ℕ
-  textAt p = partedText s (itemAt mode (instructionOf body) p)
+  textAt p = partedText s (itemAt mode arm (instructionOf body) p)
 
   place-within : (p : Place) → T (isFrom j p) → length (textAt p) ≤ share (countOf body) j
   place-within place.Nothing t =
-      omega (arith, parted-none s (itemAt mode (instructionOf body) place.Nothing) (shows-nothing mode (instructionOf body) {p = place.Nothing} refl))
+      omega (arith, parted-none s (itemAt mode arm (instructionOf body) place.Nothing) (shows-nothing mode arm (instructionOf body) {p = place.Nothing} refl))
   place-within (place.Register reg) t =
       omega (
         arith,
         share-least (ltb j (countOf body)),
-        parted-most s (itemAt mode (instructionOf body) (place.Register reg)),
-        ap length (place-register mode (instructionOf body) {p = place.Register reg} refl),
+        parted-most s (itemAt mode arm (instructionOf body) (place.Register reg)),
+        ap length (place-register mode arm (instructionOf body) {p = place.Register reg} refl),
         register-short reg,
         parts,
       )
@@ -89,17 +89,17 @@ module _ (mode : Mode) (body : List ℕ) (few : countOf body ≤ 4) (s : List �
       omega (
         arith,
         share-least (ltb j (countOf body)),
-        parted-most s (itemAt mode (instructionOf body) place.Branch),
-        ap length (place-branch mode (instructionOf body) {p = place.Branch} refl),
-        branch-shown-short mode (instructionOf body),
+        parted-most s (itemAt mode arm (instructionOf body) place.Branch),
+        ap length (place-branch mode arm (instructionOf body) {p = place.Branch} refl),
+        branch-shown-short mode arm (instructionOf body),
         parts,
       )
   place-within (place.Operand k label segment short) t =
       let p = place.Operand k label segment short in
-      let i = itemAt mode (instructionOf body) p in
+      let i = itemAt mode arm (instructionOf body) p in
       elim (decLt k (countOf body)) [
         | yes h ↦ rw (lt-ltb j (countOf body) (let l = leb→le j k t in omega arith)) (omega (arith, parted-most s i, item-short i, parts))
-        | no h ↦ omega (arith, parted-none s i (shows-stored mode body few {p = p} refl ∙ le-ltb k (countOf body) (omega arith)))
+        | no h ↦ omega (arith, parted-none s i (shows-stored mode arm body few {p = p} refl ∙ le-ltb k (countOf body) (omega arith)))
       ]
 
 -- the line of such a plan, and a newline after it; a plan that showed one operand four times could need more
@@ -116,10 +116,10 @@ line-within mode arm plan body ordered few =
       arith,
       line-length (lineBy mode arm plan i),
       head-short (headOf arm (i .opcode) (i .flags)),
-      items-length (itemsAt mode i plan),
-      place-within mode body few (bytes " ") (lit≤ tt) 0 (plan .a) (both-left (isFrom 0 (plan .a)) (isFrom 1 (plan .b) && (isFrom 2 (plan .c) && isFrom 3 (plan .d))) ordered),
-      place-within mode body few (bytes ", ") (lit≤ tt) 1 (plan .b) (both-left (isFrom 1 (plan .b)) (isFrom 2 (plan .c) && isFrom 3 (plan .d)) from-1),
-      place-within mode body few (bytes ", ") (lit≤ tt) 2 (plan .c) (both-left (isFrom 2 (plan .c)) (isFrom 3 (plan .d)) from-2),
-      place-within mode body few (bytes ", ") (lit≤ tt) 3 (plan .d) (both-right (isFrom 2 (plan .c)) (isFrom 3 (plan .d)) from-2),
+      items-length (itemsAt mode arm i plan),
+      place-within mode arm body few (bytes " ") (lit≤ tt) 0 (plan .a) (both-left (isFrom 0 (plan .a)) (isFrom 1 (plan .b) && (isFrom 2 (plan .c) && isFrom 3 (plan .d))) ordered),
+      place-within mode arm body few (bytes ", ") (lit≤ tt) 1 (plan .b) (both-left (isFrom 1 (plan .b)) (isFrom 2 (plan .c) && isFrom 3 (plan .d)) from-1),
+      place-within mode arm body few (bytes ", ") (lit≤ tt) 2 (plan .c) (both-left (isFrom 2 (plan .c)) (isFrom 3 (plan .d)) from-2),
+      place-within mode arm body few (bytes ", ") (lit≤ tt) 3 (plan .d) (both-right (isFrom 2 (plan .c)) (isFrom 3 (plan .d)) from-2),
       shares (countOf body) few,
     )

@@ -19,6 +19,8 @@ use Rattle.names.specs.Registers.{registers, registerName, segments, segmentNam
 use Rattle.names.specs.Opcodes.{mnemonics, mnemonic, opcodes}
 use Rattle.names.specs.Labels.{labels, labelWord}
 use Rattle.operands.specs.declared.Address.{Address}
+use Rattle.operands.specs.declared.BranchWord.{BranchWord}
+use Rattle.operands.specs.declared.BranchWord.the-variants as word
 use Rattle.operands.specs.declared.Item.{Item}
 use Rattle.operands.specs.declared.Shown.{Shown}
 use Rattle.operands.specs.declared.Shown.the-variants.{Nothing, Name, St, Number, Word, Dword, Bracket, Branch}
@@ -26,7 +28,7 @@ use Rattle.operands.specs.declared.Label.{Label}
 use Rattle.places.specs.Labels.{labelNumber}
 use Rattle.lines.specs.Fronts.{labelText, segmentText}
 use Rattle.lines.specs.Brackets.{baseText, scaleText, indexedText, indexText, tailText}
-use Rattle.lines.specs.Items.{branchText, shownText, itemText}
+use Rattle.lines.specs.Items.{wordText, branchText, shownText, itemText}
 use Rattle.lines.specs.declared.Head.{Head}
 use Rattle.lines.specs.declared.Line.{Line}
 use Rattle.lines.specs.declared.Name.{Name as Mnemonic}
@@ -93,8 +95,14 @@ tail-short displaced d =
       displacement-short d,
     )
 
-pub branch-short : (near minus : Bool) (size : ℕ) → length (branchText near minus size) ≤ 21
-branch-short near minus size = omega (arith, branch-length near minus size, cond-most near 9, numeral-short size)
+-- `near ptr ` is the longest word
+word-most : (w : BranchWord) → length (wordText w) ≤ 9
+word-most word.None = lit≤ tt
+word-most word.Short = lit≤ tt
+word-most word.Near = lit≤ tt
+
+pub branch-short : (w : BranchWord) (minus : Bool) (size : ℕ) → length (branchText w minus size) ≤ 21
+branch-short w minus size = omega (arith, branch-length w minus size, word-most w, numeral-short size)
 
 shown-short : (s : Shown) → length (shownText s) ≤ 32
 unfolding shownText
@@ -106,7 +114,7 @@ shown-short (Word v) = omega (arith, absolute-length 4 v, absolute-short 4 v)
 shown-short (Dword v) = omega (arith, absolute-length 8 v, absolute-short 8 v)
 shown-short (Bracket a) =
     omega (arith, bracket-length a, base-short (a .based) (a .base), index-short a, tail-short (a .displaced) (a .disp))
-shown-short (Branch near minus size) = omega (arith, branch-short near minus size)
+shown-short (Branch w minus size) = omega (arith, branch-short w minus size)
 
 pub item-short : (i : Item) → length (itemText i) ≤ 47
 item-short i = omega (arith, item-length i, label-short (i .label), segment-short (i .segment), shown-short (i .shown))

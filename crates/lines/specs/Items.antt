@@ -3,10 +3,11 @@
 use mathlib.Core.Bool.{Bool, cond}
 use mathlib.Core.List.{List, [], _++_}
 use Prim.Native.Nat.{ℕ}
-use Rattle.text.specs.Choice.{when}
 use Rattle.text.specs.Words.{bytes}
 use Rattle.numerals.specs.Numerals.{numeral, absolute}
 use Rattle.names.specs.Registers.{registerName}
+use Rattle.operands.specs.declared.BranchWord.{BranchWord}
+use Rattle.operands.specs.declared.BranchWord.the-variants as word
 use Rattle.operands.specs.declared.Item.{Item}
 use Rattle.operands.specs.declared.Shown.{Shown}
 use Rattle.operands.specs.declared.Shown.the-variants.{Nothing, Name, St, Number, Word, Dword, Bracket, Branch}
@@ -21,9 +22,15 @@ absoluteText k address = bytes "[" ++ (absolute k address ++ bytes "]")
 abbrev pub signText : Bool → List ℕ
 signText minus = cond minus (bytes "$-") (bytes "$+")
 
--- "`$`, sign and numeral of distance plus length", with "`near ptr ` in front" where it is called for
-unfoldable pub branchText : Bool → Bool → ℕ → List ℕ
-branchText near minus size = when near (bytes "near ptr ") ++ (signText minus ++ numeral size)
+-- the word before `$`
+abbrev pub wordText : BranchWord → List ℕ
+wordText word.None = []
+wordText word.Short = bytes "short "
+wordText word.Near = bytes "near ptr "
+
+-- the word, and "`$`, sign and numeral of distance plus length"
+unfoldable pub branchText : BranchWord → Bool → ℕ → List ℕ
+branchText word minus size = wordText word ++ (signText minus ++ numeral size)
 
 unfoldable pub shownText : Shown → List ℕ
 shownText Nothing = []
@@ -33,7 +40,7 @@ shownText (Number value) = numeral value
 shownText (Word address) = absoluteText 4 address
 shownText (Dword address) = absoluteText 8 address
 shownText (Bracket address) = bracketText address
-shownText (Branch near minus size) = branchText near minus size
+shownText (Branch word minus size) = branchText word minus size
 
 unfoldable pub itemText : Item → List ℕ
 itemText i = labelText (i .label) ++ (segmentText (i .segment) ++ shownText (i .shown))

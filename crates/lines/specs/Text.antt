@@ -50,7 +50,7 @@ shows (Number value) = true
 shows (Word address) = true
 shows (Dword address) = true
 shows (Bracket address) = true
-shows (Branch near minus size) = true
+shows (Branch word minus size) = true
 
 -- an operand that shows something, after what parts it from the text before
 unfoldable pub partedText : List ℕ → Item → List ℕ
@@ -67,7 +67,7 @@ lineText l = headText (l .head) ++ itemsText (l .items)
 
 -- what the line of a plan shows: its head by the arm, opcode and flags, and its operands by the places
 abbrev pub lineBy : Mode → Arm → Plan → Instruction → Line
-lineBy mode arm plan i = record { head = headOf arm (i .opcode) (i .flags); items = itemsAt mode i plan }
+lineBy mode arm plan i = record { head = headOf arm (i .opcode) (i .flags); items = itemsAt mode arm i plan }
 
 -- the longest line: "No line exceeds 256 bytes"
 abbrev pub longestLine : ℕ

@@ -12,7 +12,7 @@ ghost use Rattle.places.specs.Labels.{labelAt};
 ghost use Rattle.places.specs.Order.{fromTheLeft};
 ghost use Rattle.places.specs.Places.{operandShown, branchOf, itemAt, itemsAt};
 ghost use Rattle.lines.specs.Fronts.{segmentText};
-ghost use Rattle.lines.specs.Items.{absoluteText, signText, branchText, shownText, itemText};
+ghost use Rattle.lines.specs.Items.{absoluteText, signText, wordText, branchText, shownText, itemText};
 ghost use Rattle.lines.specs.Text.{shows, itemsText};
 ghost use Rattle.lines.specs.Code.{shownSegment, frontText, registerText, placeAt, separatorAt};
 use crate::bracket;
@@ -21,8 +21,10 @@ use bodies::kinds::immediate_at;
 use bodies::kinds::immediate_kind_at;
 use bodies::parts::operand_at;
 use branches::Mode;
+use names::Arm;
 use names::labels;
 use names::registers;
+use operands::BranchWord;
 use operands::Operand;
 use operands::Shown;
 use places::Place;
@@ -58,29 +60,41 @@ fn put_sign(buf: &mut [u8], at: usize, minus: bool) -> usize
     }
 }
 
-fn put_sum(buf: &mut [u8], at: usize, near: bool, minus: bool, size: u32) -> usize
-    requires { ⌜ Room (now buf) at (branchText near minus size) ⌝ }
-    ensures { λ r. ⌜ Put (now (buf .entry)) at (branchText near minus size) r (now (buf .exit)) ⌝ }
+fn put_branch_word(buf: &mut [u8], at: usize, word: BranchWord) -> usize
+    requires { ⌜ Room (now buf) at (wordText word) ⌝ }
+    ensures { λ r. ⌜ Put (now (buf .entry)) at (wordText word) r (now (buf .exit)) ⌝ }
 {
-    let next = text::put_when(buf, at, near, b"near ptr ");
+    match word {
+        BranchWord::None => at,
+        BranchWord::Short => text::put_bytes(buf, at, b"short "),
+        BranchWord::Near => text::put_bytes(buf, at, b"near ptr "),
+    }
+}
+
+fn put_sum(buf: &mut [u8], at: usize, word: BranchWord, minus: bool, size: u32) -> usize
+    requires { ⌜ Room (now buf) at (branchText word minus size) ⌝ }
+    ensures { λ r. ⌜ Put (now (buf .entry)) at (branchText word minus size) r (now (buf .exit)) ⌝ }
+{
+    let next = put_branch_word(buf, at, word);
     let next = put_sign(buf, next, minus);
     numerals::numeral::put_numeral(buf, next, size)
 }
 
-// The branch of operand 0.
-fn put_branch(buf: &mut [u8], at: usize, body: &[u8], mode: Mode) -> usize
+// The branch of operand 0, with the word of this arm.
+fn put_branch(buf: &mut [u8], at: usize, body: &[u8], mode: Mode, arm: Arm) -> usize
     requires { ⌜ Whole (now body) ⌝ }
-    requires { ⌜ Room (now buf) at (shownText (branchOf mode (instructionOf (now body)))) ⌝ }
-    ensures { λ r. ⌜ Put (now (buf .entry)) at (shownText (branchOf mode (instructionOf (now (body .entry))))) r (now (buf .exit)) ⌝ }
+    requires { ⌜ Room (now buf) at (shownText (branchOf mode arm (instructionOf (now body)))) ⌝ }
+    ensures { λ r. ⌜ Put (now (buf .entry)) at (shownText (branchOf mode arm (instructionOf (now (body .entry))))) r (now (buf .exit)) ⌝ }
 {
     let shown = branches::branch_shown(
         mode,
+        arm,
         immediate_kind_at(body, 0),
         immediate_at(body, 0),
         fields::length(body),
     );
-    if let Shown::Branch { near, minus, size } = shown {
-        put_sum(buf, at, near, minus, size)
+    if let Shown::Branch { word, minus, size } = shown {
+        put_sum(buf, at, word, minus, size)
     } else {
         at
     }
@@ -228,14 +242,15 @@ fn put_place(
     label_starts: &labels::Starts,
     body: &[u8],
     mode: Mode,
+    arm: Arm,
     place: Place,
 ) -> usize
     requires { ⌜ RegisterTable (now «register_letters») (now «register_starts») ⌝ }
     requires { ⌜ LabelTable (now «label_letters») (now «label_starts») ⌝ }
     requires { ⌜ Whole (now body) ⌝ }
     requires { ⌜ countOf (now body) ≤ 4 ⌝ }
-    requires { ⌜ Room (now buf) at (itemText (itemAt mode (instructionOf (now body)) place)) ⌝ }
-    ensures { λ r. ⌜ Put (now (buf .entry)) at (itemText (itemAt mode (instructionOf (now (body .entry))) place)) r (now (buf .exit)) ⌝ }
+    requires { ⌜ Room (now buf) at (itemText (itemAt mode arm (instructionOf (now body)) place)) ⌝ }
+    ensures { λ r. ⌜ Put (now (buf .entry)) at (itemText (itemAt mode arm (instructionOf (now (body .entry))) place)) r (now (buf .exit)) ⌝ }
 {
     match place {
         Place::Nothing => at,
@@ -246,7 +261,7 @@ fn put_place(
             register_starts,
             reg,
         ),
-        Place::Branch => put_branch(buf, at, body, mode),
+        Place::Branch => put_branch(buf, at, body, mode, arm),
         Place::Operand {
             k,
             label,
@@ -271,7 +286,7 @@ fn put_place(
 fn shows_something(body: &[u8], place: Place) -> bool
     requires { ⌜ Whole (now body) ⌝ }
     requires { ⌜ countOf (now body) ≤ 4 ⌝ }
-    ensures { λ r. ⌜ ((mode : Mode) → r ≡ shows (itemAt mode (instructionOf (now (body .entry))) place .shown)) ⌝ }
+    ensures { λ r. ⌜ ((mode : Mode) (arm : Arm) → r ≡ shows (itemAt mode arm (instructionOf (now (body .entry))) place .shown)) ⌝ }
 {
     match place {
         Place::Nothing => false,
@@ -324,15 +339,16 @@ pub fn put_places(
     label_starts: &labels::Starts,
     body: &[u8],
     mode: Mode,
+    arm: Arm,
     plan: Plan,
 ) -> usize
     requires { ⌜ RegisterTable (now «register_letters») (now «register_starts») ⌝ }
     requires { ⌜ LabelTable (now «label_letters») (now «label_starts») ⌝ }
     requires { ⌜ Whole (now body) ⌝ }
     requires { ⌜ countOf (now body) ≤ 4 ⌝ }
-    requires { ⌜ fromTheLeft (itemsAt mode (instructionOf (now body)) plan) ≡ true ⌝ }
-    requires { ⌜ Room (now buf) at (itemsText (itemsAt mode (instructionOf (now body)) plan)) ⌝ }
-    ensures { λ r. ⌜ Put (now (buf .entry)) at (itemsText (itemsAt mode (instructionOf (now (body .entry))) plan)) r (now (buf .exit)) ⌝ }
+    requires { ⌜ fromTheLeft (itemsAt mode arm (instructionOf (now body)) plan) ≡ true ⌝ }
+    requires { ⌜ Room (now buf) at (itemsText (itemsAt mode arm (instructionOf (now body)) plan)) ⌝ }
+    ensures { λ r. ⌜ Put (now (buf .entry)) at (itemsText (itemsAt mode arm (instructionOf (now (body .entry))) plan)) r (now (buf .exit)) ⌝ }
 {
     let mut k = 0;
     let mut next = at;
@@ -351,6 +367,7 @@ pub fn put_places(
             label_starts,
             body,
             mode,
+            arm,
             place,
         );
         k += 1;

@@ -41,7 +41,7 @@ pub fn put_line(
     requires { ⌜ LabelTable (now «label_letters») (now «label_starts») ⌝ }
     requires { ⌜ Whole (now body) ⌝ }
     requires { ⌜ countOf (now body) ≤ 4 ⌝ }
-    requires { ⌜ fromTheLeft (itemsAt mode (instructionOf (now body)) plan) ≡ true ⌝ }
+    requires { ⌜ fromTheLeft (itemsAt mode arm (instructionOf (now body)) plan) ≡ true ⌝ }
     requires { ⌜ Room (now buf) at (lineText (lineBy mode arm plan (instructionOf (now body)))) ⌝ }
     ensures { λ r. ⌜ Put (now (buf .entry)) at (lineText (lineBy mode arm plan (instructionOf (now (body .entry))))) r (now (buf .exit)) ⌝ }
 {
@@ -57,6 +57,7 @@ pub fn put_line(
         label_starts,
         body,
         mode,
+        arm,
         plan,
     )
 }

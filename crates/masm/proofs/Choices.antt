@@ -52,6 +52,11 @@ a-target-anywhere : read 7 (bytes "mov $+5, $*1") ≡ says "mov" (branch none 12
 unfolding read
 a-target-anywhere = refl
 
+-- MASM has no short call, and a short jump does not reach that far
+any-width : read 0 (bytes "call short $ + 1000h") ≡ says "call" (branch (some 8) 4096 ∷ [])
+unfolding read
+any-width = refl
+
 sums-wrap : read 0 (bytes "push 0FFFFFFFFh + 2") ≡ says "push" (immediate 1 ∷ [])
 unfolding read
 sums-wrap = refl
@@ -65,8 +70,13 @@ any-mnemonic = refl
 not-known :
     AllRead (
     "push 7 / 2" ∷ "push 1 shl 2" ∷ "push not 1" ∷ "push offset $" ∷ "push 'a'" ∷ "mov eax, cr0" ∷ "top: inc eax" ∷ "push dword ptr 5" ∷ "inc (eax)"
-    ∷ "mov eax, es:dword ptr [ebx]" ∷ "mov eax, [es:ebx]" ∷ "mov eax, 8 + es:[ebx]" ∷ "mov eax, [dword ptr ebx]" ∷ "mov eax, dr0" ∷ "jmp far ptr [ebx]" ∷ "jmp [$ + 8]" ∷ "jmp near ptr [ebx]" ∷ "jmp short $" ∷ "push $ - ($ - 8)" ∷ "fld st(1 + 1)" ∷ []
+    ∷ "mov eax, es:dword ptr [ebx]" ∷ "mov eax, [es:ebx]" ∷ "mov eax, 8 + es:[ebx]" ∷ "mov eax, [dword ptr ebx]" ∷ "mov eax, dr0" ∷ "jmp far ptr [ebx]" ∷ "jmp [$ + 8]" ∷ "jmp near ptr [ebx]" ∷ "jmp (short $) + 5" ∷ "jmp near + 5 + $" ∷ "push $ - ($ - 8)" ∷ "fld st(1 + 1)" ∷ []
     )
     refused
 unfolding read
 not-known = refl
+
+-- asmc heeds `short` wherever it stands, and else the first of the two
+two-words-before-a-target : AllRead ("jmp short near ptr $+5" ∷ "jmp near ptr short $+5" ∷ "jmp short short $+5" ∷ "jmp near ptr near ptr $+5" ∷ "jmp dword ptr short $" ∷ "jmp dword ptr near ptr $" ∷ "jmp near ptr dword ptr $" ∷ []) refused
+unfolding read
+two-words-before-a-target = refl

@@ -6,7 +6,7 @@ use Prim.Native.Nat.{ℕ}
 use lib.Dec.{T, eqb}
 use Rattle.masm.specs.Tokens.{sameList, sameToken}
 use Rattle.masm.specs.Expressions.{registers}
-use Rattle.masm.specs.Operands.{Label, Byte, Word, Dword, Fword, Qword, Mmword, Tbyte, Xmmword, Ymmword, Zmmword, labels, synonyms, segments}
+use Rattle.masm.specs.Operands.{Label, Byte, Word, Dword, Fword, Qword, Mmword, Tbyte, Xmmword, Ymmword, Zmmword, widths, labels, synonyms, segments}
 use Rattle.masm.specs.Lines.{prefixWords}
 
 abbrev holds : {A : Type 0} → (A → A → Bool) → A → List A → Bool
@@ -30,6 +30,10 @@ no-two-segments : T (distinct eqb (map (λ e. e .1) segments))
 unfolding segments
 no-two-segments = tt
 
+no-two-widths : T (distinct eqb (map (λ e. e .1) widths))
+unfolding widths
+no-two-widths = tt
+
 abbrev number : Label → ℕ
 number Byte = 0
 number Word = 1
@@ -51,8 +55,9 @@ no-name-twice :
     T (
     distinct (sameList sameToken) (map (λ e. e .0) registers)
     && distinct (sameList sameToken) (map (λ e. e .0) segments)
+    && distinct (sameList sameToken) (map (λ e. e .0) widths)
     && distinct (sameList sameToken) (map (λ e. e .0) (labels ++ synonyms))
     && distinct (sameList sameToken) (map (λ e. e .0) prefixWords)
     )
-unfolding registers segments labels synonyms prefixWords
+unfolding registers segments widths labels synonyms prefixWords
 no-name-twice = tt

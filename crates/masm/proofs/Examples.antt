@@ -10,7 +10,7 @@ use Prim.Native.String.{String}
 use lib.Dec.{eqb}
 use Rattle.masm.specs.Tokens.{bytes}
 use Rattle.masm.specs.Expressions.{Register}
-use Rattle.masm.specs.Operands.{Near, Byte, Dword, Tbyte, timesIn, Operand, register, immediate, branch, address}
+use Rattle.masm.specs.Operands.{Byte, Dword, Tbyte, timesIn, Operand, register, immediate, branch, address}
 use Rattle.masm.specs.Lines.{Rep, Reading, shows, no-instruction, refused, read}
 
 -- a mnemonic and operands, with no prefix words
@@ -121,7 +121,11 @@ from-the-start : (start : ℕ) → read start (bytes "jmp $+80h") ≡ says "jmp"
 unfolding read
 from-the-start start = refl
 
-near-from-the-start : read 4096 (bytes "jmp near ptr $+80h") ≡ says "jmp" (branch (some Near) 4224 ∷ [])
+short-from-the-start : read 4096 (bytes "jmp short $+80h") ≡ says "jmp" (branch (some 8) 4224 ∷ [])
+unfolding read
+short-from-the-start = refl
+
+near-from-the-start : read 4096 (bytes "jmp near ptr $+80h") ≡ says "jmp" (branch (some 32) 4224 ∷ [])
 unfolding read
 near-from-the-start = refl
 
@@ -133,9 +137,27 @@ one-target : AllRead ("jmp $ + 80h - 2" ∷ "jmp 80h + $ - 2" ∷ "jmp $ + (80h 
 unfolding read
 one-target = refl
 
-no-target : AllRead ("jmp $ + $" ∷ "jmp - $" ∷ "jmp 8 - $" ∷ "jmp near ptr 80h" ∷ "jmp near $" ∷ "jmp near ptr eax" ∷ []) refused
+no-target : AllRead ("jmp $ + $" ∷ "jmp - $" ∷ "jmp 8 - $" ∷ []) refused
 unfolding read
 no-target = refl
+
+short-target : AllRead ("jmp short $+5" ∷ "JMP SHORT $ + 5" ∷ "Jmp Short 8 + $ - 3" ∷ "jmp short($ + 5)" ∷ []) (says "jmp" (branch (some 8) 5 ∷ []))
+unfolding read
+short-target = refl
+
+near-target : AllRead ("jmp near ptr $+5" ∷ "JMP NEAR PTR $ + 5" ∷ "jmp near\tPtr 5 + $" ∷ "jmp near ptr($ + 5)" ∷ []) (says "jmp" (branch (some 32) 5 ∷ []))
+unfolding read
+near-target = refl
+
+-- `near` alone and `short ptr` say no width
+no-width : AllRead ("jmp near $" ∷ "jmp near $+5" ∷ "jmp short ptr $+5" ∷ "jmp ptr $+5" ∷ []) refused
+unfolding read
+no-width = refl
+
+-- a width stands before a target, and before nothing else
+a-width-without-a-target : AllRead ("jmp short" ∷ "jmp short eax" ∷ "jmp short 5" ∷ "jmp short [eax]" ∷ "jmp short fs:0" ∷ "jmp short dword ptr $" ∷ "jmp near ptr" ∷ "jmp near ptr eax" ∷ "jmp near ptr 80h" ∷ []) refused
+unfolding read
+a-width-without-a-target = refl
 
 -- `$` is a letter of names: this is an instruction named `jmp$`, which MASM does not know, and no branch
 a-name-with-a-dollar : AllRead ("jmp$ + 80h" ∷ "jmp$+80h" ∷ []) (says "jmp$" (immediate 128 ∷ []))

@@ -7,8 +7,8 @@ use Prim.Native.Nat.{_+_}
 use Prim.Native.String.{String}
 use lib.ListN.{length}
 use Rattle.masm.specs.Tokens.{bytes}
-use Rattle.masm.specs.Operands.{Near, Byte, Word, Dword, Qword, Tbyte, Xmmword, timesIn, Operand, register, immediate, branch, address}
-use Rattle.masm.specs.Lines.{Prefix, Lock, Repe, Repne, Reading, shows, no-instruction, refused, read}
+use Rattle.masm.specs.Operands.{Byte, Word, Dword, Qword, Tbyte, Xmmword, timesIn, Operand, register, immediate, branch, address}
+use Rattle.masm.specs.Lines.{Prefix, Lock, Rep, Repe, Repne, Reading, shows, no-instruction, refused, read}
 
 abbrev says : List Prefix → String → List Operand → Reading
 says prefixes name operands = shows (record { prefixes = prefixes; mnemonic = bytes name; operands = operands })
@@ -18,46 +18,46 @@ Read lines = map (λ e. read 0x1000 (bytes (e .0))) lines ≡ map (λ e. e .1) l
 
 lines-0 : List (String × Reading)
 lines-0 =
-    ("JNB ($) +  (03d + (3Q+1D))", says [] "jnb" (branch none 4103 ∷ [])) ∷
-    ("loop ,$) +15;;", refused) ∷
-    ("inc dword ptr eax;;", says [] "inc" (register 0 ∷ [])) ∷
-    (" Mov esi ,[  2Q\t* EBx]", says [] "mov" (register 6 ∷ address none none (timesIn ((3, 2) ∷ [])) 0 ∷ [])) ∷
-    ("FADD ST, ST(5);;", says [] "fadd" (register 32 ∷ register 37 ∷ [])) ∷
-    ("INC DWORD PTR ECX", says [] "inc" (register 1 ∷ [])) ∷
-    ("adD eAx,00177777Q  +[(eBx  *(4h*2H))]; [ebx], 5", says [] "add" (register 0 ∷ address none none (timesIn ((3, 8) ∷ [])) 65535 ∷ [])) ∷
-    ("\tpUSH 8CB6h*4;;", says [] "push" (immediate 144088 ∷ [])) ∷
-    ("suB ESI ,0BBh-12 ", says [] "sub" (register 6 ∷ immediate 175 ∷ [])) ∷
-    (" cmp ebp  ,0e68b9356H;;", says [] "cmp" (register 5 ∷ immediate 3867906902 ∷ [])) ∷
-    ("MOV ESP\t, [ EDX * 001 + EBX\t+ 12H]", says [] "mov" (register 4 ∷ address none none (timesIn ((2, 1) ∷ (3, 1) ∷ [])) 18 ∷ [])) ∷
-    (" and edi,(\t(02h) *\t4  ) ; it's", says [] "and" (register 7 ∷ immediate 8 ∷ [])) ∷
-    ("fld qword ptr (0229t-  (028h- 0035))\t+[esp ]+ 0110011b", says [] "fld" (address (some Qword) none (timesIn ((4, 1) ∷ [])) 275 ∷ [])) ∷
-    (" fmul st , st(6);;", says [] "fmul" (register 32 ∷ register 38 ∷ [])) ∷
-    ("fld qwo$rd ptr gs :0020h", refused) ∷
-    ("fmul st,\tst(0); [ebx], 5", says [] "fmul" (register 32 ∷ register 32 ∷ [])) ∷
-    ("XCHG ]EDI,EAX ", refused) ∷
-    ("addps xmm3  ,oword ptr cs :09T-\t57 ; it's", says [] "addps" (register 51 ∷ address (some Xmmword) (some 25) (timesIn []) 4294967248 ∷ [])) ∷
-    ("lea esp, [ecx + 03666398426]", says [] "lea" (register 4 ∷ address none none (timesIn ((1, 1) ∷ [])) 3666398426 ∷ [])) ∷
-    ("REPE cmpsb; [ebx], 5", says (Repe ∷ []) "cmpsb" []) ∷
-    ("push (-\t(06t) * 1)*4", says [] "push" (immediate 4294967272 ∷ [])) ∷
-    ("puh 25 ", says [] "puh" (immediate 25 ∷ [])) ∷
-    ("jmp $; [ebx], 5", says [] "jmp" (branch none 4096 ∷ [])) ∷
-    ("jnb $-51742;;", says [] "jnb" (branch none 4294919650 ∷ [])) ∷
-    ("MOV BH,DL ", says [] "mov" (register 23 ∷ register 18 ∷ [])) ∷
-    (" p,ush (0*  8  -(\t9 ))* 3", refused) ∷
-    (" fadd  st, st(6);;", says [] "fadd" (register 32 ∷ register 38 ∷ [])) ∷
-    ("inc sdword ptr [ ecx\t+\tecx*((]2h  *2Q))][12h]", refused) ∷
-    ("push 19", says [] "push" (immediate 19 ∷ [])) ∷
-    ("mov esp,  gs\t:  [ eax+edi]; [ebx], 5", says [] "mov" (register 4 ∷ address none (some 29) (timesIn ((0, 1) ∷ (7, 1) ∷ [])) 0 ∷ [])) ∷
-    ("LEA EDX,[EDX] + 0A6H +0059332", says [] "lea" (register 2 ∷ address none none (timesIn ((2, 1) ∷ [])) 59498 ∷ [])) ∷
-    ("jz ( $\t+016); [ebx], 5", says [] "jz" (branch none 4112 ∷ [])) ∷
-    (" call $+(03h  +04)", says [] "call" (branch none 4103 ∷ [])) ∷
-    ("\tMoV ch, Dl ", says [] "mov" (register 21 ∷ register 18 ∷ [])) ∷
-    ("call $", says [] "call" (branch none 4096 ∷ [])) ∷
-    (" *eCxZ $- 2h", refused) ∷
-    ("\tpUSH 11y", says [] "push" (immediate 3 ∷ [])) ∷
-    ("push dword ptr ebp ; it's", says [] "push" (register 5 ∷ [])) ∷
-    ("push 18D * 5; [ebx], 5", says [] "push" (immediate 90 ∷ [])) ∷
-    (" jmp ($)- 010010Y", says [] "jmp" (branch none 4078 ∷ [])) ∷
+    ("mov ch, dl ; it's", says [] "mov" (register 21 ∷ register 18 ∷ [])) ∷
+    ("Mov [-(003h)] , esp;;", says [] "mov" (address none none (timesIn []) 4294967293 ∷ register 4 ∷ [])) ∷
+    ("\tjmp short ss :[esi+  (7+0)]", refused) ∷
+    ("inC SBYTe Ptr Ss: [  (EDi)+ esP*(2Q+\t(02))] ; it's", says [] "inc" (address (some Byte) (some 26) (timesIn ((7, 1) ∷ (4, 4) ∷ [])) 0 ∷ [])) ∷
+    ("NOT REAL4 PTR [\tESI] [-((013- 0CH) *02)]; [ebx], 5", says [] "not" (address (some Dword) none (timesIn ((6, 1) ∷ [])) 4294967294 ∷ [])) ∷
+    ("lea esi  ,\t[eax+\t11b* esi ]-320Q", says [] "lea" (register 6 ∷ address none none (timesIn ((0, 1) ∷ (6, 3) ∷ [])) 4294967088 ∷ [])) ∷
+    (" NEG DWORD PTR EBP", says [] "neg" (register 5 ∷ [])) ∷
+    ("\tpush dword ptr edi", says [] "push" (register 7 ∷ [])) ∷
+    (" MOV CS  : (314T+ 0433H) [ (EBX)]  [  EDX  *(4H  +(0))],ECX", says [] "mov" (address none (some 25) (timesIn ((3, 1) ∷ (2, 4) ∷ [])) 1389 ∷ register 1 ∷ [])) ∷
+    (" AdDps xmm7 , XmMword ptr 5H  0E9h  [ eSI];;", refused) ∷
+    (" xchg eax,fs\t:[\tesi*10Y - 00Y] ; it's", says [] "xchg" (register 0 ∷ address none (some 28) (timesIn ((6, 2) ∷ [])) 0 ∷ [])) ∷
+    ("\tinc byte ptr [13]  [-0052B2DF58h]", says [] "inc" (address (some Byte) none (timesIn []) 2907513013 ∷ [])) ∷
+    ("CALL NEAR PTR $", says [] "call" (branch (some 32) 4096 ∷ [])) ∷
+    (" jmp near ptr $\t+ 10h", says [] "jmp" (branch (some 32) 4112 ∷ [])) ∷
+    ("test eax, edi", says [] "test" (register 0 ∷ register 7 ∷ [])) ∷
+    ("cmp dword ptr [\tecx\t*\t001h+ 55],  0Ch * 2; [ebx], 5", says [] "cmp" (address (some Dword) none (timesIn ((1, 1) ∷ [])) 55 ∷ immediate 24 ∷ [])) ∷
+    (" xchg esp , ,[esi\t+esi *8]", refused) ∷
+    ("\tjecxz short $ +8h", says [] "jecxz" (branch (some 8) 4104 ∷ [])) ∷
+    ("addps xmm7 ,xmmword ptr ss :\t[((0 * 02)\t+\t0t)]", says [] "addps" (register 55 ∷ address (some Xmmword) (some 26) (timesIn []) 0 ∷ [])) ∷
+    ("rEP scaSB;;", says (Rep ∷ []) "scasb" []) ∷
+    ("PUSH 0BH  * 7", says [] "push" (immediate 77 ∷ [])) ∷
+    ("lock inc dword ptr [  ebp", refused) ∷
+    (" Call Near PtR $+(107Q0  002); [ebx], 5", refused) ∷
+    ("MOV ESI ,5D ", says [] "mov" (register 6 ∷ immediate 5 ∷ [])) ∷
+    ("push 26227655651O", says [] "push" (immediate 2992593833 ∷ [])) ∷
+    ("fmul  st,st(0); [ebx], 5", says [] "fmul" (register 32 ∷ register 32 ∷ [])) ∷
+    ("\tmov edx ,[ ebp] ; it's", says [] "mov" (register 2 ∷ address none none (timesIn ((5, 1) ∷ [])) 0 ∷ [])) ∷
+    ("\tmovaps xmm0\t,  xmmword ptr ds:  0255\t[ ebp] ", says [] "movaps" (register 48 ∷ address (some Xmmword) (some 27) (timesIn ((5, 1) ∷ [])) 255 ∷ [])) ∷
+    ("jmp ( $ -0eH)", says [] "jmp" (branch none 4082 ∷ [])) ∷
+    ("\tpush 371168476d", says [] "push" (immediate 371168476 ∷ [])) ∷
+    ("neg dword ptr ebp", says [] "neg" (register 5 ∷ [])) ∷
+    (" push - ((3h\t))\t*  0", says [] "push" (immediate 0 ∷ [])) ∷
+    ("mov esp , 03O ", says [] "mov" (register 4 ∷ immediate 3 ∷ [])) ∷
+    ("add ecx\t,-25+00100b ", says [] "add" (register 1 ∷ immediate 4294967275 ∷ [])) ∷
+    ("addps xmm2 , xmmword ptr [edx +\t((34) -0010111b)];;", says [] "addps" (register 50 ∷ address (some Xmmword) none (timesIn ((2, 1) ∷ [])) 11 ∷ [])) ∷
+    ("JMP $", says [] "jmp" (branch none 4096 ∷ [])) ∷
+    ("\tREPE stosd; [ebx], 5", says (Repe ∷ []) "stosd" []) ∷
+    (" jecxz short ($)  - (11t+3h) ; it's", says [] "jecxz" (branch (some 8) 4082 ∷ [])) ∷
+    ("\tcall $ +\t((0031o  - 025) +0)+151; [ebx], 5", says [] "call" (branch none 4247 ∷ [])) ∷
+    ("\tsub eDx ,0010000b", says [] "sub" (register 2 ∷ immediate 16 ∷ [])) ∷
     []
 
 read-0 : Read lines-0
@@ -66,46 +66,46 @@ read-0 = refl
 
 lines-1 : List (String × Reading)
 lines-1 =
-    (" PUSH DWORD PTR ECX", says [] "push" (register 1 ∷ [])) ∷
-    ("RepZ cmPsb ", says (Repe ∷ []) "cmpsb" []) ∷
-    ("\tREPNZ MOVSB", says (Repne ∷ []) "movsb" []) ∷
-    ("jmp]$-\t((34) -0010111b); [ebx], 5", refused) ∷
-    ("mov ebp\t,-  -03478h - 60629t;;", says [] "mov" (register 5 ∷ immediate 4294920099 ∷ [])) ∷
-    ("fadd  st ,  st(7)", says [] "fadd" (register 32 ∷ register 39 ∷ [])) ∷
-    ("\ttestesi , eax ; it's", refused) ∷
-    ("dC ecx, ecX", says [] "dc" (register 1 ∷ register 1 ∷ [])) ∷
-    ("\tand ebp ,014d* 4; [ebx], 5", says [] "and" (register 5 ∷ immediate 56 ∷ [])) ∷
-    ("push 0Ah; [ebx], 5", says [] "push" (immediate 10 ∷ [])) ∷
-    ("REPNE SCASB", says (Repne ∷ []) "scasb" []) ∷
-    ("mov ch  , 007T; [ebx], 5", says [] "mov" (register 21 ∷ immediate 7 ∷ [])) ∷
-    ("\tMOV ESP, 4O+ 14O-9H* 5\t+0H", says [] "mov" (register 4 ∷ immediate 4294967267 ∷ [])) ∷
-    ("MOV EAX,[EBX\t+(EDI*04H) ] -\t(3D+  2)  +(007H)", says [] "mov" (register 0 ∷ address none none (timesIn ((3, 1) ∷ (7, 4) ∷ [])) 2 ∷ [])) ∷
-    ("RepNe MOvsb", says (Repne ∷ []) "movsb" []) ∷
-    ("CalL nEar PTR $  - 6555t", says [] "call" (branch (some Near) 4294964837 ∷ [])) ∷
-    ("LOOP ($)-073H", says [] "loop" (branch none 3981 ∷ [])) ∷
-    ("FLD R$EAL4 PTR [(008H)  *EDI +EBX ] + 16Q", refused) ∷
-    ("INC DWORD PTR EDI", says [] "inc" (register 7 ∷ [])) ∷
-    ("mov dh, dl; [ebx], 5", says [] "mov" (register 22 ∷ register 18 ∷ [])) ∷
-    ("test edi,edi", says [] "test" (register 7 ∷ register 7 ∷ [])) ∷
-    ("push (\t18 )", says [] "push" (immediate 18 ∷ [])) ∷
-    ("lock inc sdword ptr ((1001b-0aH)+ (3o+7))[ edi+\teax *  8]", says (Lock ∷ []) "inc" (address (some Dword) none (timesIn ((7, 1) ∷ (0, 8) ∷ [])) 9 ∷ [])) ∷
-    ("PUSH 247  * 8 ; it's", says [] "push" (immediate 1976 ∷ [])) ∷
-    ("MovaPs xMm4 , xMmwOrD ptr FS : 86d5ce68H ", says [] "movaps" (register 52 ∷ address (some Xmmword) (some 28) (timesIn []) 2262158952 ∷ [])) ∷
-    ("XCHG EBX  ,[\tEBP +EDI  * 1]", says [] "xchg" (register 3 ∷ address none none (timesIn ((5, 1) ∷ (7, 1) ∷ [])) 0 ∷ [])) ∷
-    ("mov edx\t, fs : [((14H) - (6h* 02))]\t[100111110101110Y]", says [] "mov" (register 2 ∷ address none (some 28) (timesIn []) 20406 ∷ [])) ∷
-    (" mov dword ptr ss :\t0109\t,\t581B84F4h-267", says [] "mov" (address (some Dword) (some 26) (timesIn []) 109 ∷ immediate 1478198249 ∷ [])) ∷
-    ("add edx,009h -069h- 0015", says [] "add" (register 2 ∷ immediate 4294967185 ∷ [])) ∷
-    ("iNc byte PtR [ eax][ 3H*ebP]", says [] "inc" (address (some Byte) none (timesIn ((0, 1) ∷ (5, 3) ∷ [])) 0 ∷ [])) ∷
-    (" AND EBX ,\t(10101100Y)*\t1 ", says [] "and" (register 3 ∷ immediate 172 ∷ [])) ∷
-    ("\tiNc sDWOrd ptr [3d\t*ebx+  011Y]; [ebx], 5", says [] "inc" (address (some Dword) none (timesIn ((3, 3) ∷ [])) 3 ∷ [])) ∷
-    ("movApS xmm7 , xMm7;;", says [] "movaps" (register 55 ∷ register 55 ∷ [])) ∷
-    ("xchg esi,\t30860D + [ edx]", says [] "xchg" (register 6 ∷ address none none (timesIn ((2, 1) ∷ [])) 30860 ∷ [])) ∷
-    ("\tpush (0Ch)*\t1", says [] "push" (immediate 12 ∷ [])) ∷
-    ("PUsh 272t", says [] "push" (immediate 272 ∷ [])) ∷
-    ("\txor edx  , 030224", says [] "xor" (register 2 ∷ immediate 30224 ∷ [])) ∷
-    ("mov eax  ,\tcs:[ edi]; [ebx], 5", says [] "mov" (register 0 ∷ address none (some 25) (timesIn ((7, 1) ∷ [])) 0 ∷ [])) ∷
-    ("\tfmu:l  st\t,  st(2); [ebx], 5", refused) ∷
-    ("sub ebp,\t12 ", says [] "sub" (register 5 ∷ immediate 12 ∷ [])) ∷
+    ("mov esi\t, 23o[esp][ esp]", says [] "mov" (register 6 ∷ address none none (timesIn ((4, 1) ∷ (4, 1) ∷ [])) 19 ∷ [])) ∷
+    ("movaps xmm5  ,xmm5", says [] "movaps" (register 53 ∷ register 53 ∷ [])) ∷
+    ("\t", no-instruction) ∷
+    ("fADd  sT , st(3);;", says [] "fadd" (register 32 ∷ register 35 ∷ [])) ∷
+    (" :ush 0124 * 2", refused) ∷
+    ("mhov dl\t,\t7", says [] "mhov" (register 18 ∷ immediate 7 ∷ [])) ∷
+    ("\tJmP shOrt dword Ptr $;;", refused) ∷
+    ("INC DWORD PTR ECX", says [] "inc" (register 1 ∷ [])) ∷
+    ("addps xmm0,\txmm3", says [] "addps" (register 48 ∷ register 51 ∷ [])) ∷
+    ("\tcall ($)+\t((6T\t* 2H)+ 3h); [ebx], 5", says [] "call" (branch none 4111 ∷ [])) ∷
+    ("\tpush ( (\t18- 08h  ) ) ; it's", says [] "push" (immediate 10 ∷ [])) ∷
+    ("\tlea EBx ,ss\t:\t[-007h- 0a9H] ", says [] "lea" (register 3 ∷ address none (some 26) (timesIn []) 4294967120 ∷ [])) ∷
+    ("LOop $-04  -255 ; it's", says [] "loop" (branch none 3837 ∷ [])) ∷
+    ("add ecx,101y  + ((006h)\t*02) [  edi]; [ebx], 5", says [] "add" (register 1 ∷ address none none (timesIn ((7, 1) ∷ [])) 17 ∷ [])) ∷
+    (" repne cmpsb", says (Repne ∷ []) "cmpsb" []) ∷
+    (" and ebx,059DCE029h+ 00371395405", says [] "and" (register 3 ∷ immediate 1879042934 ∷ [])) ∷
+    ("REPE scasb", says (Repe ∷ []) "scasb" []) ∷
+    ("lea ebp,\t[4T\t*eax] ", says [] "lea" (register 5 ∷ address none none (timesIn ((0, 4) ∷ [])) 0 ∷ [])) ∷
+    (" push 17t;;", says [] "push" (immediate 17 ∷ [])) ∷
+    ("cmp dword ptr (003h) +  [ecx+(02)] ,  (004h)", says [] "cmp" (address (some Dword) none (timesIn ((1, 1) ∷ [])) 5 ∷ immediate 4 ∷ [])) ∷
+    ("xor edi,005q\t+ 0DBh+243 +  0015", says [] "xor" (register 7 ∷ immediate 482 ∷ [])) ∷
+    (" inc byte ptr [ esp+(015)]", says [] "inc" (address (some Byte) none (timesIn ((4, 1) ∷ [])) 15 ∷ [])) ∷
+    ("cmp word ptr [edi+  008*  esi-((5O\t+  0) *  2)],-\t005 ", says [] "cmp" (address (some Word) none (timesIn ((7, 1) ∷ (6, 8) ∷ [])) 4294967286 ∷ immediate 4294967291 ∷ [])) ∷
+    ("Push dWoRd ptr edx ", says [] "push" (register 2 ∷ [])) ∷
+    (" jmp 13D\t+$;;", says [] "jmp" (branch none 4109 ∷ [])) ∷
+    ("jz $  -272t ", says [] "jz" (branch none 3824 ∷ [])) ∷
+    ("\tjmp $ ", says [] "jmp" (branch none 4096 ∷ [])) ∷
+    ("push (007155  -001100100011010111B)  *0  -018; [ebx], 5", says [] "push" (immediate 4294967278 ∷ [])) ∷
+    (" MOV ESI,0FFFFH; [ebx], 5", says [] "mov" (register 6 ∷ immediate 65535 ∷ [])) ∷
+    (" jmp short (025h - (060q\t-\t016))\t+  $;;", says [] "jmp" (branch (some 8) 4101 ∷ [])) ∷
+    ("\trepnz stosd", says (Repne ∷ []) "stosd" []) ∷
+    ("lea edx,[-014]", says [] "lea" (register 2 ∷ address none none (timesIn []) 4294967282 ∷ [])) ∷
+    ("AND ESI ,\t(2147483647 )", says [] "and" (register 6 ∷ immediate 2147483647 ∷ [])) ∷
+    ("push dword ptr[eax", refused) ∷
+    ("REPE movsb ", says (Repe ∷ []) "movsb" []) ∷
+    ("inc sword ptr fs: 011000000100100b+ 0Ch;;", says [] "inc" (address (some Word) (some 28) (timesIn []) 12336 ∷ [])) ∷
+    ("repnz stosd ; it's", says (Repne ∷ []) "stosd" []) ∷
+    (" MOv eBP, (2993790387)*\t3 ; it's", says [] "mov" (register 5 ∷ immediate 391436569 ∷ [])) ∷
+    (" PuSh ((010Q)* 1+ 010100011b +6D)", says [] "push" (immediate 177 ∷ [])) ∷
+    ("MOV ESP ,  1111B", says [] "mov" (register 4 ∷ immediate 15 ∷ [])) ∷
     []
 
 read-1 : Read lines-1
@@ -114,46 +114,46 @@ read-1 = refl
 
 lines-2 : List (String × Reading)
 lines-2 =
-    ("\tand edi\t,0012D  -9h-39\t+\t164251Q; [ebx], 5", says [] "and" (register 7 ∷ immediate 59525 ∷ [])) ∷
-    ("repz scasb", says (Repe ∷ []) "scasb" []) ∷
-    ("pUSH 1775744686*1\t-  (5A26h)  *0 ", says [] "push" (immediate 1775744686 ∷ [])) ∷
-    (" AND EBX , 0B0H; [ebx], 5", says [] "and" (register 3 ∷ immediate 176 ∷ [])) ∷
-    (" lea esp  ,\t[ ebp]", says [] "lea" (register 4 ∷ address none none (timesIn ((5, 1) ∷ [])) 0 ∷ [])) ∷
-    ("jz near ptr $ ; it's", says [] "jz" (branch (some Near) 4096 ∷ [])) ∷
-    ("\tadd esi,  [ ebp- 066h]; [ebx], 5", says [] "add" (register 6 ∷ address none none (timesIn ((5, 1) ∷ [])) 4294967194 ∷ [])) ∷
-    ("\tmov ebp,09\t+ 006h; [ebx], 5", says [] "mov" (register 5 ∷ immediate 15 ∷ [])) ∷
-    (" fld real4 ptr fs:\t[\tesp]", says [] "fld" (address (some Dword) (some 28) (timesIn ((4, 1) ∷ [])) 0 ∷ [])) ∷
-    ("mov ds  :3h[edi +\t(edi*  002)]  ,ecx", says [] "mov" (address none (some 27) (timesIn ((7, 1) ∷ (7, 2) ∷ [])) 3 ∷ register 1 ∷ [])) ∷
-    ("MOV EBP  ,  FS :  [05CH\t- 6];;", says [] "mov" (register 5 ∷ address none (some 28) (timesIn []) 86 ∷ [])) ∷
-    (" lea EDX,\t[\teBp+3h  *Esi+16]", says [] "lea" (register 2 ∷ address none none (timesIn ((5, 1) ∷ (6, 3) ∷ [])) 16 ∷ [])) ∷
-    ("mov [ esp +ebx +0036895T],\teax", says [] "mov" (address none none (timesIn ((4, 1) ∷ (3, 1) ∷ [])) 36895 ∷ register 0 ∷ [])) ∷
-    ("movap[s xmm4\t, xmm5", refused) ∷
-    (" FLD SQWORD PTR CS:2Q", says [] "fld" (address (some Qword) (some 25) (timesIn []) 2 ∷ [])) ∷
-    ("inc byte ptr [ ecx  *1Q ][esp] ", says [] "inc" (address (some Byte) none (timesIn ((1, 1) ∷ (4, 1) ∷ [])) 0 ∷ [])) ∷
-    ("\tMOV [EAX\t-  3Q],\tEDX", says [] "mov" (address none none (timesIn ((0, 1) ∷ [])) 4294967293 ∷ register 2 ∷ [])) ∷
-    ("\tfmul \tst\t,st(7)", says [] "fmul" (register 32 ∷ register 39 ∷ [])) ∷
-    ("jmp $+  293; [ebx], 5", says [] "jmp" (branch none 4389 ∷ [])) ∷
-    ("\tmov bh,\tcl", says [] "mov" (register 23 ∷ register 17 ∷ [])) ∷
-    ("fadd st\t,  st(1);;", says [] "fadd" (register 32 ∷ register 33 ∷ [])) ∷
-    ("\txor ebp ,(080h- 00,)  *0", refused) ∷
-    (" LOCK INC SDWORD PTR [ EX]", refused) ∷
-    ("jmp near ptr ($) +8", says [] "jmp" (branch (some Near) 4104 ∷ [])) ∷
-    ("FLD QWORD PTR DS:  [(7 *  010Y)];;", says [] "fld" (address (some Qword) (some 27) (timesIn []) 14 ∷ [])) ∷
-    ("fmul st, st(6)", says [] "fmul" (register 32 ∷ register 38 ∷ [])) ∷
-    (" inc word ptr fs: 127", says [] "inc" (address (some Word) (some 28) (timesIn []) 127 ∷ [])) ∷
-    ("jecxz 013h +$;;", says [] "jecxz" (branch none 4115 ∷ [])) ∷
-    ("\tjhz ( $+\t(27h* 2q)) ", says [] "jhz" (branch none 4174 ∷ [])) ∷
-    ("CALL $+ 16832 -0", says [] "call" (branch none 20928 ∷ [])) ∷
-    ("\trepz scasb;;", says (Repe ∷ []) "scasb" []) ∷
-    ("mov ch , bh; [ebx], 5", says [] "mov" (register 21 ∷ register 23 ∷ [])) ∷
-    (" mOV eDX ,  [ edi\t+ edI] ", says [] "mov" (register 2 ∷ address none none (timesIn ((7, 1) ∷ (7, 1) ∷ [])) 0 ∷ [])) ∷
-    ("\tlock inc real4 ptr 2850166261+  [ebp +342Q]", says (Lock ∷ []) "inc" (address (some Dword) none (timesIn ((5, 1) ∷ [])) 2850166487 ∷ [])) ∷
-    ("jecxz $ ; it's", says [] "jecxz" (branch none 4096 ∷ [])) ∷
-    ("xchg ecx  ,gs\t: 04Q; [ebx], 5", says [] "xchg" (register 1 ∷ address none (some 29) (timesIn []) 4 ∷ [])) ∷
-    (" jmp near ptr $", says [] "jmp" (branch (some Near) 4096 ∷ [])) ∷
-    ("\tINC DWORD PTR [(EAX*\t(23 -  0FH))\t+\t((6) +  (0C3H))]", says [] "inc" (address (some Dword) none (timesIn ((0, 8) ∷ [])) 201 ∷ [])) ∷
-    ("leA esp\t,[EBx+154D] -000b", says [] "lea" (register 4 ∷ address none none (timesIn ((3, 1) ∷ [])) 154 ∷ [])) ∷
-    ("test ebp) ,ecx; [ebx], 5", refused) ∷
+    ("fld real8 ptr ss:  216 (22h -\t(29h\t- 019h))+[\tesi]", says [] "fld" (address (some Qword) (some 26) (timesIn ((6, 1) ∷ [])) 234 ∷ [])) ∷
+    ("flD SqWORD pTr [ 001H  *  esP + edX]\t-  58", says [] "fld" (address (some Qword) none (timesIn ((4, 1) ∷ (2, 1) ∷ [])) 4294967238 ∷ [])) ∷
+    ("\tjz near ptr $\t-  007fffH-135", says [] "jz" (branch (some 32) 4294938490 ∷ [])) ∷
+    (" movaps xmm1  ,\txmm7 ; it's", says [] "movaps" (register 49 ∷ register 55 ∷ [])) ∷
+    ("movaps xmm3, xmm6;;", says [] "movaps" (register 51 ∷ register 54 ∷ [])) ∷
+    ("call $+\t((01t)+\t0b);;", says [] "call" (branch none 4097 ∷ [])) ∷
+    ("neg dword ptr esp ", says [] "neg" (register 4 ∷ [])) ∷
+    ("xChg EaX,\teSi ", says [] "xchg" (register 0 ∷ register 6 ∷ [])) ∷
+    (" movaps xmm0  , xmm5; [ebx], 5", says [] "movaps" (register 48 ∷ register 53 ∷ [])) ∷
+    ("\tmov [eax\t] -006\t,)si", refused) ∷
+    (" push dword ptr esi", says [] "push" (register 6 ∷ [])) ∷
+    (" jnb short ($) - ((10110b-10h)) ; it's", says [] "jnb" (branch (some 8) 4090 ∷ [])) ∷
+    (" add ebp  ,es\t:  [  edi] [ebx\t*002q- 11]", says [] "add" (register 5 ∷ address none (some 24) (timesIn ((7, 1) ∷ (3, 2) ∷ [])) 4294967285 ∷ [])) ∷
+    ("L5OP SHORT ( $ -112H)", says [] "l5op" (branch (some 8) 3822 ∷ [])) ∷
+    (" jecxz $-61346O -9", says [] "jecxz" (branch none 4294946065 ∷ [])) ∷
+    ("jmp short $\t- 0ffh", says [] "jmp" (branch (some 8) 3841 ∷ [])) ∷
+    ("inc byte ptr ss :[-5] ", says [] "inc" (address (some Byte) (some 26) (timesIn []) 4294967291 ∷ [])) ∷
+    ("\tfld real8 ptr [07h\t+ (0+  0)]", says [] "fld" (address (some Qword) none (timesIn []) 7 ∷ [])) ∷
+    ("jmp short ($)\t+ (126*\t2)", says [] "jmp" (branch (some 8) 4348 ∷ [])) ∷
+    ("\tlock inc dword ptr 10000y  +[ebx]; [ebx], 5", says (Lock ∷ []) "inc" (address (some Dword) none (timesIn ((3, 1) ∷ [])) 16 ∷ [])) ∷
+    ("xchg ebx  ,edi", says [] "xchg" (register 3 ∷ register 7 ∷ [])) ∷
+    ("xchg edi, [-(04)  + (38h-(011+38))]", says [] "xchg" (register 7 ∷ address none none (timesIn []) 3 ∷ [])) ∷
+    ("tEst Edi, EBp", says [] "test" (register 7 ∷ register 5 ∷ [])) ∷
+    ("fadd dword ptr 13 +[  esp]", says [] "fadd" (address (some Dword) none (timesIn ((4, 1) ∷ [])) 13 ∷ [])) ∷
+    ("Jmp shorT dwOrd ptr ($)  +((0AH -005));;", refused) ∷
+    ("inc Word Ptr [ebx  +\tEbx *002];;", says [] "inc" (address (some Word) none (timesIn ((3, 1) ∷ (3, 2) ∷ [])) 0 ∷ [])) ∷
+    ("ADD EDX ,\t[(48-0040O)]", says [] "add" (register 2 ∷ address none none (timesIn []) 16 ∷ [])) ∷
+    ("Or word PtR [ Ebx], 0Eh", says [] "or" (address (some Word) none (timesIn ((3, 1) ∷ [])) 0 ∷ immediate 14 ∷ [])) ∷
+    ("sub EAx,\t0T*7; [ebx], 5", says [] "sub" (register 0 ∷ immediate 0 ∷ [])) ∷
+    ("mov [ eax + edX] ,edx", says [] "mov" (address none none (timesIn ((0, 1) ∷ (2, 1) ∷ [])) 0 ∷ register 2 ∷ [])) ∷
+    (" cmp edx, 297\t*\t6", says [] "cmp" (register 2 ∷ immediate 1782 ∷ [])) ∷
+    (" mov ah ,7", says [] "mov" (register 20 ∷ immediate 7 ∷ [])) ∷
+    ("\tJ,MP NEAR PTR ($)+  123107O ", refused) ∷
+    (" JMP $\t-0H ", says [] "jmp" (branch none 4096 ∷ [])) ∷
+    ("TeSt esi ,ebhx ", refused) ∷
+    ("mov ds:[ esp- 007FFFFFFFh],esi; [ebx], 5", says [] "mov" (address none (some 27) (timesIn ((4, 1) ∷ [])) 2147483649 ∷ register 6 ∷ [])) ∷
+    ("\tjnb short $ -19; [ebx], 5", says [] "jnb" (branch (some 8) 4077 ∷ [])) ∷
+    ("fld sqword ptr fs  :[ esi\t*2T\t]+\t(2h+  1011Y)", says [] "fld" (address (some Qword) (some 28) (timesIn ((6, 2) ∷ [])) 13 ∷ [])) ∷
+    (" push real4 ptr fs : (124)*\t2 ", says [] "push" (address (some Dword) (some 28) (timesIn []) 248 ∷ [])) ∷
+    (" jz ($ + 0010787t); [ebx], 5", says [] "jz" (branch none 14883 ∷ [])) ∷
     []
 
 read-2 : Read lines-2
@@ -162,46 +162,46 @@ read-2 = refl
 
 lines-3 : List (String × Reading)
 lines-3 =
-    ("\tfld real4 ptr [edi *  001Q\t+(5)];;", says [] "fld" (address (some Dword) none (timesIn ((7, 1) ∷ [])) 5 ∷ [])) ∷
-    ("mov esi  ,(  7H); [ebx], 5", says [] "mov" (register 6 ∷ immediate 7 ∷ [])) ∷
-    (" inc sbyte ptr 6[215]", says [] "inc" (address (some Byte) none (timesIn []) 221 ∷ [])) ∷
-    (" push real4 ptr [ ebp  ]\t+ 0Q", says [] "push" (address (some Dword) none (timesIn ((5, 1) ∷ [])) 0 ∷ [])) ∷
-    (" fadd  st  ,st(3); [ebx], 5", says [] "fadd" (register 32 ∷ register 35 ∷ [])) ∷
-    ("push (001h*  8) * 0", says [] "push" (immediate 0 ∷ [])) ∷
-    ("lock inc dword ptr [  esi\t]  [  edx* 0100B];;", says (Lock ∷ []) "inc" (address (some Dword) none (timesIn ((6, 1) ∷ (2, 4) ∷ [])) 0 ∷ [])) ∷
-    (" repnz movsb;;", says (Repne ∷ []) "movsb" []) ∷
-    ("and es0,\t0011030", refused) ∷
-    ("add esp  ,[  ep +0H]", refused) ∷
-    ("or dword ptr cs:  [esp]- (0045 -(22t*002q)), 009E1Bh", says [] "or" (address (some Dword) (some 25) (timesIn ((4, 1) ∷ [])) 4294967295 ∷ immediate 40475 ∷ [])) ∷
-    ("repnz movsb", says (Repne ∷ []) "movsb" []) ∷
-    ("LOOP $ +0AH +6", says [] "loop" (branch none 4112 ∷ [])) ∷
-    ("\tPUSH (21 *5+076T*  8)*  1 ; it's", says [] "push" (immediate 713 ∷ [])) ∷
-    ("INC SWORD PTR [02\t* EDI] ", says [] "inc" (address (some Word) none (timesIn ((7, 2) ∷ [])) 0 ∷ [])) ∷
-    ("lock inc real4 ptr ds:\t[ edx  +  45337] ; it's", says (Lock ∷ []) "inc" (address (some Dword) (some 27) (timesIn ((2, 1) ∷ [])) 45337 ∷ [])) ∷
-    ("mov ecx\t, 8000h [  eax] ", says [] "mov" (register 1 ∷ address none none (timesIn ((0, 1) ∷ [])) 32768 ∷ [])) ∷
-    ("\tpush dword ptr fs:  018D  -  53B5h", says [] "push" (address (some Dword) (some 28) (timesIn []) 4294945885 ∷ [])) ∷
-    ("lock inc real4 ptr gs :(7O) *1", says (Lock ∷ []) "inc" (address (some Dword) (some 29) (timesIn []) 7 ∷ [])) ∷
-    ("call $+  28550t;;", says [] "call" (branch none 32646 ∷ [])) ∷
-    (" jecxz $-  (3Ch*\t2O) -13", says [] "jecxz" (branch none 3963 ∷ [])) ∷
-    ("jmp $+0FFFFh", says [] "jmp" (branch none 69631 ∷ [])) ∷
-    ("\tINC WORD PTR 7FH [\tEAX*  002O] ; it's", says [] "inc" (address (some Word) none (timesIn ((0, 2) ∷ [])) 127 ∷ [])) ∷
-    ("mov eax,fs : [ (ebp)  + 02o * esp] ", says [] "mov" (register 0 ∷ address none (some 28) (timesIn ((5, 1) ∷ (4, 2) ∷ [])) 0 ∷ [])) ∷
-    ("moV ebx, 006O ", says [] "mov" (register 3 ∷ immediate 6 ∷ [])) ∷
-    ("adc eaX,Esi ", says [] "adc" (register 0 ∷ register 6 ∷ [])) ∷
-    (" jz near ptr ($- ((000+ 004T)  +(00101011y -0101010b)));;", says [] "jz" (branch (some Near) 4091 ∷ [])) ∷
-    (" pus  0032767", says [] "pus" (immediate 32767 ∷ [])) ∷
-    ("\tmovaps xmm4,xmm4;;", says [] "movaps" (register 52 ∷ register 52 ∷ [])) ∷
-    ("mov (010)  [eax  *3]  ,\teax; [ebx], 5", says [] "mov" (address none none (timesIn ((0, 3) ∷ [])) 10 ∷ register 0 ∷ [])) ∷
-    (" lea edi, [  esi]", says [] "lea" (register 7 ∷ address none none (timesIn ((6, 1) ∷ [])) 0 ∷ [])) ∷
-    ("movaps xmm1,xmm7", says [] "movaps" (register 49 ∷ register 55 ∷ [])) ∷
-    ("\tTEST EAX,EDI", says [] "test" (register 0 ∷ register 7 ∷ [])) ∷
-    ("fld real10 ptr es:  (\t0010100B )", says [] "fld" (address (some Tbyte) (some 24) (timesIn []) 20 ∷ [])) ∷
-    ("Add Edi ,5-\t(12)* 1", says [] "add" (register 7 ∷ immediate 4294967289 ∷ [])) ∷
-    ("\tfmul \tst,  st(2) ; it's", says [] "fmul" (register 32 ∷ register 34 ∷ [])) ∷
-    ("mov edi  ,\tds:  7FFFFFFFh[ edi  + (0H +2q)* ebx]", says [] "mov" (register 7 ∷ address none (some 27) (timesIn ((7, 1) ∷ (3, 2) ∷ [])) 2147483647 ∷ [])) ∷
-    ("add edx,00200; [ebx], 5", says [] "add" (register 2 ∷ immediate 200 ∷ [])) ∷
-    ("push (( 0025)+032f6h)\t*  4", says [] "push" (immediate 52284 ∷ [])) ∷
-    ("LOcK iNC rEaL4 Ptr [ edX*01000Y][(25 -  (010b +0015))]", says (Lock ∷ []) "inc" (address (some Dword) none (timesIn ((2, 8) ∷ [])) 8 ∷ [])) ∷
+    ("Or byte Ptr fs\t:  3  *0 ,  11", says [] "or" (address (some Byte) (some 28) (timesIn []) 0 ∷ immediate 11 ∷ [])) ∷
+    ("add ebx, [(ebx)  + 62817];;", says [] "add" (register 3 ∷ address none none (timesIn ((3, 1) ∷ [])) 62817 ∷ [])) ∷
+    (" lock inc dword ptr ds: [  (1*ebp) +  ((019))]", says (Lock ∷ []) "inc" (address (some Dword) (some 27) (timesIn ((5, 1) ∷ [])) 19 ∷ [])) ∷
+    ("mov ebx,014564010376o", says [] "mov" (register 3 ∷ immediate 1708134654 ∷ [])) ∷
+    (" JMP SHORT 0ABF5B46FH * 7; [ebx], 5", refused) ∷
+    ("mov [\tesi] , esp; [ebx], 5", says [] "mov" (address none none (timesIn ((6, 1) ∷ [])) 0 ∷ register 4 ∷ [])) ∷
+    ("Mov eSp\t, - 0100B", says [] "mov" (register 4 ∷ immediate 4294967292 ∷ [])) ∷
+    ("jmp nar ptr $-0051385", refused) ∷
+    ("\tmov word ptr (4+000t) [(ebx)] , 32767", says [] "mov" (address (some Word) none (timesIn ((3, 1) ∷ [])) 4 ∷ immediate 32767 ∷ [])) ∷
+    ("\trepnz cmpsb", says (Repne ∷ []) "cmpsb" []) ∷
+    ("xchg ecx, [ (ebp)  + 02o * esp] ", says [] "xchg" (register 1 ∷ address none none (timesIn ((5, 1) ∷ (4, 2) ∷ [])) 0 ∷ [])) ∷
+    ("\tloCk inc dword ptr [ eDi *  004H]", says (Lock ∷ []) "inc" (address (some Dword) none (timesIn ((7, 4) ∷ [])) 0 ∷ [])) ∷
+    ("sub ebp,\t-00298T+036Q; [ebx], 5", says [] "sub" (register 5 ∷ immediate 4294967028 ∷ [])) ∷
+    ("\tjmp near $+11010111B\t*  8", refused) ∷
+    ("mov [\t(eax)\t-\t0016],ec ", refused) ∷
+    ("\tpush (-2147483648\t-00127)", says [] "push" (immediate 2147483521 ∷ [])) ∷
+    (" push dword ptr ecx ; it's", says [] "push" (register 1 ∷ [])) ∷
+    ("mov fs:11d*  5\t,edi ", says [] "mov" (address none (some 28) (timesIn []) 55 ∷ register 7 ∷ [])) ∷
+    ("fLd real10 ptR cs\t:[esI+ (ebP)]  [((16+ 10011000Y) - 0040)]", says [] "fld" (address (some Tbyte) (some 25) (timesIn ((6, 1) ∷ (5, 1) ∷ [])) 128 ∷ [])) ∷
+    ("REPE CMPSB; [ebx], 5", says (Repe ∷ []) "cmpsb" []) ∷
+    ("addps xmm2  ,  xmm2", says [] "addps" (register 50 ∷ register 50 ∷ [])) ∷
+    ("ADC EDI ,EAX ; it's", says [] "adc" (register 7 ∷ register 0 ∷ [])) ∷
+    ("add edi ,ss:  [  ecx]; [ebx], 5", says [] "add" (register 7 ∷ address none (some 26) (timesIn ((1, 1) ∷ [])) 0 ∷ [])) ∷
+    ("cmp word ptr 2506230885  [esi*001d],  17", says [] "cmp" (address (some Word) none (timesIn ((6, 1) ∷ [])) 2506230885 ∷ immediate 17 ∷ [])) ∷
+    ("PUSH REAL4 PTR [ESI]; [ebx], 5", says [] "push" (address (some Dword) none (timesIn ((6, 1) ∷ [])) 0 ∷ [])) ∷
+    ("\tadd edi\t,  2C8557C5h + [0FFFFFFFFh]", says [] "add" (register 7 ∷ address none none (timesIn []) 746936260 ∷ [])) ∷
+    ("CMP EBP ,\t(04O)* 0", says [] "cmp" (register 5 ∷ immediate 0 ∷ [])) ∷
+    ("mov dl\t,al ; it's", says [] "mov" (register 18 ∷ register 16 ∷ [])) ∷
+    ("inc sword ptr gs\t: 1001b; [ebx], 5", says [] "inc" (address (some Word) (some 29) (timesIn []) 9 ∷ [])) ∷
+    (" ADC EAX,  EBX", says [] "adc" (register 0 ∷ register 3 ∷ [])) ∷
+    ("XCHG edI,ecx ", says [] "xchg" (register 7 ∷ register 1 ∷ [])) ∷
+    ("Jz neAr Ptr ( $ +\t(0d8H))", says [] "jz" (branch (some 32) 4312 ∷ [])) ∷
+    ("mov ebx\t, 1H -00216t+\t1010Y", says [] "mov" (register 3 ∷ immediate 4294967091 ∷ [])) ∷
+    (" fadd  st, st(3); [ebx], 5", says [] "fadd" (register 32 ∷ register 35 ∷ [])) ∷
+    (" INC WORD PTR [ EAX]", says [] "inc" (address (some Word) none (timesIn ((0, 1) ∷ [])) 0 ∷ [])) ∷
+    ("test ebp ,ebp ; it's", says [] "test" (register 5 ∷ register 5 ∷ [])) ∷
+    ("mov edi,\t[-004q][00100000]", says [] "mov" (register 7 ∷ address none none (timesIn []) 99996 ∷ [])) ∷
+    (" fld sqword ptr [ebp] ; it's", says [] "fld" (address (some Qword) none (timesIn ((5, 1) ∷ [])) 0 ∷ [])) ∷
+    ("mov ebx, -0E6h; [ebx], 5", says [] "mov" (register 3 ∷ immediate 4294967066 ∷ [])) ∷
+    ("FMUL   ST\t, ST(5);;", says [] "fmul" (register 32 ∷ register 37 ∷ [])) ∷
     []
 
 read-3 : Read lines-3
@@ -210,46 +210,46 @@ read-3 = refl
 
 lines-4 : List (String × Reading)
 lines-4 =
-    ("mov esi , [\tedi*\t01\t+\t(edx)]; [ebx], 5", says [] "mov" (register 6 ∷ address none none (timesIn ((7, 1) ∷ (2, 1) ∷ [])) 0 ∷ [])) ∷
-    (" repnz cmpsb; [ebx], 5", says (Repne ∷ []) "cmpsb" []) ∷
-    (" cmp word ptr (4h)[09h] ,08t+ 0ffffffffH", says [] "cmp" (address (some Word) none (timesIn []) 13 ∷ immediate 7 ∷ [])) ∷
-    (" lock iNc dWorD ptR [eAX*  (0H+ 1)+0012H]", says (Lock ∷ []) "inc" (address (some Dword) none (timesIn ((0, 1) ∷ [])) 18 ∷ [])) ∷
-    ("push 30H *2", says [] "push" (immediate 96 ∷ [])) ∷
-    ("push 0011Y ", says [] "push" (immediate 3 ∷ [])) ∷
-    ("inc sbyte ptr cs:(07 + 110Y)+  [esi][\t(2h)* eax]", says [] "inc" (address (some Byte) (some 25) (timesIn ((6, 1) ∷ (0, 2) ∷ [])) 13 ∷ [])) ∷
-    ("push ( (0080h)  * 2-  -  0013D\t) ", says [] "push" (immediate 269 ∷ [])) ∷
-    (" inc dword ptr eax; [ebx], 5", says [] "inc" (register 0 ∷ [])) ∷
-    ("\tADD EB*, [ESI][33O][-62]", refused) ∷
-    ("add ebx, 18 [ ebx  *(03) +(4)]", says [] "add" (register 3 ∷ address none none (timesIn ((3, 3) ∷ [])) 22 ∷ [])) ∷
-    ("push 218 ; it's", says [] "push" (immediate 218 ∷ [])) ∷
-    (" fmul  st, st(4) ; it's", says [] "fmul" (register 32 ∷ register 36 ∷ [])) ∷
-    ("\tjnb ($-000Q) ; it's", says [] "jnb" (branch none 4096 ∷ [])) ∷
-    (" adC eDX , ESI;;", says [] "adc" (register 2 ∷ register 6 ∷ [])) ∷
-    ("\tmov bl,cl", says [] "mov" (register 19 ∷ register 17 ∷ [])) ∷
-    ("add edi  ,\t0 ", says [] "add" (register 7 ∷ immediate 0 ∷ [])) ∷
-    ("\tJMP $  -\t10EH +134", says [] "jmp" (branch none 3960 ∷ [])) ∷
-    (" inC Byte PTr [(002\t*02T)+(111B))]", refused) ∷
-    (" mov ebp,(377o *  2);;", says [] "mov" (register 5 ∷ immediate 510 ∷ [])) ∷
-    ("jecxz ($)+110100)00y ; it's", refused) ∷
-    ("fld real8 ptr es  : [ edi+(002h*002h) *\tedx]", says [] "fld" (address (some Qword) (some 24) (timesIn ((7, 1) ∷ (2, 4) ∷ [])) 0 ∷ [])) ∷
-    ("push 0B  ((175)*  1)", says [] "push" (immediate 175 ∷ [])) ∷
-    ("mov ebp  ,0AD197E0Eh\t+\t-  313594858+5 -01AEBE90Ah", says [] "mov" (register 5 ∷ immediate 2138865951 ∷ [])) ∷
-    (" lEA Edx  , [ ecx+  Esp]\t+\t0960B4635H ", says [] "lea" (register 2 ∷ address none none (timesIn ((1, 1) ∷ (4, 1) ∷ [])) 2517321269 ∷ [])) ∷
-    ("or word ptr [ (edx)+ esi] +  0CE0F7FCAh+\t0Dh  , 4h +12h", says [] "or" (address (some Word) none (timesIn ((2, 1) ∷ (6, 1) ∷ [])) 3457122263 ∷ immediate 22 ∷ [])) ∷
-    ("xchg edx\t,[  edi\t+  (eax) ]- 10h", says [] "xchg" (register 2 ∷ address none none (timesIn ((7, 1) ∷ (0, 1) ∷ [])) 4294967280 ∷ [])) ∷
-    ("loop $+ 18  -16", says [] "loop" (branch none 4098 ∷ [])) ∷
-    (" push 0022Q*4; [ebx], 5", says [] "push" (immediate 72 ∷ [])) ∷
-    ("inc byte ptr (034h-  02Ch)+[ecx] ; it's", says [] "inc" (address (some Byte) none (timesIn ((1, 1) ∷ [])) 8 ∷ [])) ∷
-    (" fmul st\t, st(5) ", says [] "fmul" (register 32 ∷ register 37 ∷ [])) ∷
-    ("\tadd EAx ,  CS:\t[(5  +\t011o)]; [ebx], 5", says [] "add" (register 0 ∷ address none (some 25) (timesIn []) 14 ∷ [])) ∷
-    ("\t", no-instruction) ∷
-    ("mov es:\t1000Y - 11110100001111Y,ecx", says [] "mov" (address none (some 24) (timesIn []) 4294951673 ∷ register 1 ∷ [])) ∷
-    ("mov al -\t7 ", refused) ∷
-    ("\tinc dword ptr edi", says [] "inc" (register 7 ∷ [])) ∷
-    ("cmp byte ptr fs:[edi +  0 1h * esi] ,0FFh; [ebx], 5", refused) ∷
-    (" Push (23Q) * 1 ", says [] "push" (immediate 19 ∷ [])) ∷
-    ("xchg ebp,fs  :  - 284D; [ebx], 5", says [] "xchg" (register 5 ∷ address none (some 28) (timesIn []) 4294967012 ∷ [])) ∷
-    ("lOop ($ +50617o) ; it's", says [] "loop" (branch none 24975 ∷ [])) ∷
+    ("fld real10 ptr [edi][3852557804] ; it's", says [] "fld" (address (some Tbyte) none (timesIn ((7, 1) ∷ [])) 3852557804 ∷ [])) ∷
+    ("jmp short ptr $+0100h; [ebx], 5", refused) ∷
+    ("\tmov eax,11111111Y* 5", says [] "mov" (register 0 ∷ immediate 1275 ∷ [])) ∷
+    ("push 0028203t * 6 + 0:6314A114h;;", refused) ∷
+    (" FADD DWORD PTR DS:\t[ESI]; [ebx], 5", says [] "fadd" (address (some Dword) (some 27) (timesIn ((6, 1) ∷ [])) 0 ∷ [])) ∷
+    ("inc sbyte ptr ds  :09;;", says [] "inc" (address (some Byte) (some 27) (timesIn []) 9 ∷ [])) ∷
+    ("AdDpS xMM3 ,  xmmWorD pTr FS  :2147483648T*2;;", says [] "addps" (register 51 ∷ address (some Xmmword) (some 28) (timesIn []) 0 ∷ [])) ∷
+    ("LOOP $- 010", says [] "loop" (branch none 4086 ∷ [])) ∷
+    ("INC SBYTE PTR (16+  00T)  [EDI+ (EAX * 001)] ; it's", says [] "inc" (address (some Byte) none (timesIn ((7, 1) ∷ (0, 1) ∷ [])) 16 ∷ [])) ∷
+    (" LOCK IN:C REAL4 PTR DS:[ EAX+\t000D]", refused) ∷
+    ("jecxz short $-64DDh", says [] "jecxz" (branch (some 8) 4294945571 ∷ [])) ∷
+    ("jmp near ptr cx; [ebx], 5", refused) ∷
+    (" inc dword ptr ecx", says [] "inc" (register 1 ∷ [])) ∷
+    (" lea esi,(28H- 22H) + [ecx\t*  004h];;", says [] "lea" (register 6 ∷ address none none (timesIn ((1, 4) ∷ [])) 6 ∷ [])) ∷
+    ("jz near ptr ($) +\t0043315", says [] "jz" (branch (some 32) 47411 ∷ [])) ∷
+    (" Reh CmPsb", refused) ∷
+    ("add edx,0Eh", says [] "add" (register 2 ∷ immediate 14 ∷ [])) ∷
+    ("\tREpne StOsd", says (Repne ∷ []) "stosd" []) ∷
+    ("\tADC ESI,EDX", says [] "adc" (register 6 ∷ register 2 ∷ [])) ∷
+    ("inc sword ptr [esp+eax]", says [] "inc" (address (some Word) none (timesIn ((4, 1) ∷ (0, 1) ∷ [])) 0 ∷ [])) ∷
+    ("\tmov eax\t,09E86C3Fh ", says [] "mov" (register 0 ∷ immediate 166227007 ∷ [])) ∷
+    ("\tjmp short dword ptr $+\t(035H-0045) ; it's", refused) ∷
+    ("\tjecxz $\t+65535", says [] "jecxz" (branch none 69631 ∷ [])) ∷
+    ("lock inc dword ptr cs:\t[ (edi)  +  (2h)]", says (Lock ∷ []) "inc" (address (some Dword) (some 25) (timesIn ((7, 1) ∷ [])) 2 ∷ [])) ∷
+    ("jz ($)\t-0167444Q", says [] "jz" (branch none 4294910172 ∷ [])) ∷
+    ("lock inc dword ptr es:[\tedx+esp];;", says (Lock ∷ []) "inc" (address (some Dword) (some 24) (timesIn ((2, 1) ∷ (4, 1) ∷ [])) 0 ∷ [])) ∷
+    ("mov [-084B252E7h]\t,edi", says [] "mov" (address none none (timesIn []) 2068688153 ∷ register 7 ∷ [])) ∷
+    ("mov [\tecx], esp", says [] "mov" (address none none (timesIn ((1, 1) ∷ [])) 0 ∷ register 4 ∷ [])) ∷
+    ("cmp ecx, 256\t+ ( 146334o); [ebx], 5", says [] "cmp" (register 1 ∷ immediate 52700 ∷ [])) ∷
+    ("PUSH DWORD PTR EAX; [ebx], 5", says [] "push" (register 0 ∷ [])) ∷
+    ("mov edx\t,[edi  ] [ecx *\t((4T)+  (000o * 2))+ 5t ] - 271 ", says [] "mov" (register 2 ∷ address none none (timesIn ((7, 1) ∷ (1, 4) ∷ [])) 4294967030 ∷ [])) ∷
+    (" PUSH 1Q;;", says [] "push" (immediate 1 ∷ [])) ∷
+    ("fadd dword ptr [ebx * (2+0d)  + ebx];;", says [] "fadd" (address (some Dword) none (timesIn ((3, 2) ∷ (3, 1) ∷ [])) 0 ∷ [])) ∷
+    ("\tmov ecx ,-\t0010101110000Y  --0011", says [] "mov" (register 1 ∷ immediate 4294965915 ∷ [])) ∷
+    ("lock inc sdwor ptr [(eax) +  009h]", refused) ∷
+    (" add ebp,[ (edi* 3h) ] [edx];;", says [] "add" (register 5 ∷ address none none (timesIn ((7, 3) ∷ (2, 1) ∷ [])) 0 ∷ [])) ∷
+    ("\tCALL ($)-(005+ 0H)", says [] "call" (branch none 4091 ∷ [])) ∷
+    ("fld real4 ptr [ebp]; [ebx], 5", says [] "fld" (address (some Dword) none (timesIn ((5, 1) ∷ [])) 0 ∷ [])) ∷
+    ("MOV CS :  [  EDI-003036513641Q][004109621825D]  ,EDI;;", says [] "mov" (address none (some 25) (timesIn ((7, 1) ∷ [])) 3698934432 ∷ register 7 ∷ [])) ∷
+    ("push 004o-243 +  149t(12)+\t002821612136 ", says [] "push" (immediate 2821612058 ∷ [])) ∷
     []
 
 read-4 : Read lines-4
@@ -258,46 +258,46 @@ read-4 = refl
 
 lines-5 : List (String × Reading)
 lines-5 =
-    (" add esi,1H", says [] "add" (register 6 ∷ immediate 1 ∷ [])) ∷
-    (" lock inc dword ptr [ebp ]\t[ebx];;", says (Lock ∷ []) "inc" (address (some Dword) none (timesIn ((5, 1) ∷ (3, 1) ∷ [])) 0 ∷ [])) ∷
-    ("\tmov ebp  , 003036513641q+(03 (006T))*1; [ebx], 5", says [] "mov" (register 5 ∷ immediate 410687402 ∷ [])) ∷
-    ("fadd sdword ptr [esi *\t04]; [ebx], 5", says [] "fadd" (address (some Dword) none (timesIn ((6, 4) ∷ [])) 0 ∷ [])) ∷
-    ("LEA EAX, [EAX]", says [] "lea" (register 0 ∷ address none none (timesIn ((0, 1) ∷ [])) 0 ∷ [])) ∷
-    (" mov dh, dl ", says [] "mov" (register 22 ∷ register 18 ∷ [])) ∷
-    ("MOV FS:1033FH [ EDX], EA$;;", refused) ∷
-    ("\tPUSH - 8* 2; [ebx], 5", says [] "push" (immediate 4294967280 ∷ [])) ∷
-    ("\tinc dword ptr es  :757517677", says [] "inc" (address (some Dword) (some 24) (timesIn []) 757517677 ∷ [])) ∷
-    ("\trepne movsb ; it's", says (Repne ∷ []) "movsb" []) ∷
-    ("repz cmpsb", says (Repe ∷ []) "cmpsb" []) ∷
-    ("cmp ecx,(184)+1C01h +\t01", says [] "cmp" (register 1 ∷ immediate 7354 ∷ [])) ∷
-    ("jecxz $+ 11001011001b", says [] "jecxz" (branch none 5721 ∷ [])) ∷
-    ("\tadc ei,ebp", refused) ∷
-    ("fadd st,  st(0)", says [] "fadd" (register 32 ∷ register 32 ∷ [])) ∷
-    ("MoV wORd ptr [(2+ 101y)]  ,0Ah; [ebx], 5", says [] "mov" (address (some Word) none (timesIn []) 7 ∷ immediate 10 ∷ [])) ∷
-    (" mov eax ,\t017* 4\t- ((3h ))*\t2", says [] "mov" (register 0 ∷ immediate 62 ∷ [])) ∷
-    (" xchg ebx  ,ebx", says [] "xchg" (register 3 ∷ register 3 ∷ [])) ∷
-    ("push 1q*  6", says [] "push" (immediate 6 ∷ [])) ∷
-    (" mov ebx\t, 5598 ; it's", says [] "mov" (register 3 ∷ immediate 5598 ∷ [])) ∷
-    ("jnb $  -0h -81; [ebx], 5", says [] "jnb" (branch none 4015 ∷ [])) ∷
-    ("InC Sword Ptr [ Esi*2h + 012h]", says [] "inc" (address (some Word) none (timesIn ((6, 2) ∷ [])) 18 ∷ [])) ∷
-    (" xchg ebp , esi ; it's", says [] "xchg" (register 5 ∷ register 6 ∷ [])) ∷
-    ("loop ($)-0Ah", says [] "loop" (branch none 4086 ∷ [])) ∷
-    (" fld real10 ptr [  ebx\t+  ecx];;", says [] "fld" (address (some Tbyte) none (timesIn ((3, 1) ∷ (1, 1) ∷ [])) 0 ∷ [])) ∷
-    ("\tpush 75h", says [] "push" (immediate 117 ∷ [])) ∷
-    ("moaps xmm5,xmm2;;", says [] "moaps" (register 53 ∷ register 50 ∷ [])) ∷
-    (" lock inc sdword ptr [*edx] ; it's", refused) ∷
-    ("REPE mpsb", says (Repe ∷ []) "mpsb" []) ∷
-    ("Fld sQWOrd pTr [((049 + 3H)  - 21h)]; [ebx], 5", says [] "fld" (address (some Qword) none (timesIn []) 19 ∷ [])) ∷
-    (" jz $ + 9H ; it's", says [] "jz" (branch none 4105 ∷ [])) ∷
-    ("\tadd ebx, ((5h +1q))  +[11q]", says [] "add" (register 3 ∷ address none none (timesIn []) 15 ∷ [])) ∷
-    ("inc dword ptr esp", says [] "inc" (register 4 ∷ [])) ∷
-    ("JeCxZ $\t-13h; [ebx], 5", says [] "jecxz" (branch none 4077 ∷ [])) ∷
-    (" add ed,  6h (0Dh); [ebx], 5", refused) ∷
-    ("\tMoV ebx\t,\t00110+- 4-(\t110000001011010b);;", says [] "mov" (register 3 ∷ immediate 4294942736 ∷ [])) ∷
-    ("MOVAP]S XMM3,XMM2 ", refused) ∷
-    ("fadd dword ptr [eax + ebp* (025h- 34D)]", says [] "fadd" (address (some Dword) none (timesIn ((0, 1) ∷ (5, 3) ∷ [])) 0 ∷ [])) ∷
-    ("iNc WorD ptr [EcX ]+ 015  +18T; [ebx], 5", says [] "inc" (address (some Word) none (timesIn ((1, 1) ∷ [])) 33 ∷ [])) ∷
-    (" inc sbyte ptr 4h\t[\tesi ]  [(((04h))\t*ecx)]", says [] "inc" (address (some Byte) none (timesIn ((6, 1) ∷ (1, 4) ∷ [])) 4 ∷ [])) ∷
+    ("mov edx\t,\t5O04H+ [eax]; [ebx], 5", refused) ∷
+    ("mov eCX , - 00127T\t(1) -100001101B++5Q; [ebx], 5", says [] "mov" (register 1 ∷ immediate 4294966904 ∷ [])) ∷
+    (" fmul st ,\tst(1)", says [] "fmul" (register 32 ∷ register 33 ∷ [])) ∷
+    ("xchg eax,gs: [ebp]", says [] "xchg" (register 0 ∷ address none (some 29) (timesIn ((5, 1) ∷ [])) 0 ∷ [])) ∷
+    ("mov-dh, 7 ; it's", refused) ∷
+    (" call near ptr 008303+$", says [] "call" (branch (some 32) 12399 ∷ [])) ∷
+    ("push -6BF1h ; it's", says [] "push" (immediate 4294939663 ∷ [])) ∷
+    ("PUSH (111111111111111B*\t0+0239)\t*  4;;", says [] "push" (immediate 956 ∷ [])) ∷
+    ("xchg ebp,esi", says [] "xchg" (register 5 ∷ register 6 ∷ [])) ∷
+    (" MOV EBP  , (1111111111111111111111111111111B* 5)*1;;", says [] "mov" (register 5 ∷ immediate 2147483643 ∷ [])) ∷
+    ("PUSH -  (000H)", says [] "push" (immediate 0 ∷ [])) ∷
+    ("inc real4 ptr es :[\tebp]", says [] "inc" (address (some Dword) (some 24) (timesIn ((5, 1) ∷ [])) 0 ∷ [])) ∷
+    (" push word ptr ebx ; it's", says [] "push" (register 3 ∷ [])) ∷
+    (" inc sbyte ptr fs :178+[edi]  [1110Y]", says [] "inc" (address (some Byte) (some 28) (timesIn ((7, 1) ∷ [])) 192 ∷ [])) ∷
+    ("loop short ( $ +  006h) ", says [] "loop" (branch (some 8) 4102 ∷ [])) ∷
+    ("; [ebx], 5", no-instruction) ∷
+    ("jecxz $ +(34  -32d)", says [] "jecxz" (branch none 4098 ∷ [])) ∷
+    ("push 15 ", says [] "push" (immediate 15 ∷ [])) ∷
+    ("\tINc dwORd pTr [esp  ][edx]", says [] "inc" (address (some Dword) none (timesIn ((4, 1) ∷ (2, 1) ∷ [])) 0 ∷ [])) ∷
+    ("addps xmm4\t,\txmm2", says [] "addps" (register 52 ∷ register 50 ∷ [])) ∷
+    (" mov 6  +  [ecx],\tedx; [ebx], 5", says [] "mov" (address none none (timesIn ((1, 1) ∷ [])) 6 ∷ register 2 ∷ [])) ∷
+    ("inc sbyte ptr gs  : 6h (2h); [ebx], 5", says [] "inc" (address (some Byte) (some 29) (timesIn []) 8 ∷ [])) ∷
+    ("Mov cS :\t[01T] , Esp", says [] "mov" (address none (some 25) (timesIn []) 1 ∷ register 4 ∷ [])) ∷
+    ("\tCALL $ +5H; [ebx], 5", says [] "call" (branch none 4101 ∷ [])) ∷
+    (" push dword ptR EcX; [ebx], 5", says [] "push" (register 1 ∷ [])) ∷
+    ("FADD REAL4 PTR 00196 [(EBX)+ (030\t-\t0028)\t*  EBP]; [ebx], 5", says [] "fadd" (address (some Dword) none (timesIn ((3, 1) ∷ (5, 2) ∷ [])) 196 ∷ [])) ∷
+    (" repz scasb", says (Repe ∷ []) "scasb" []) ∷
+    ("mv cl,ch", says [] "mv" (register 17 ∷ register 21 ∷ [])) ∷
+    ("mov bh,dl; [ebx], 5", says [] "mov" (register 23 ∷ register 18 ∷ [])) ∷
+    ("FMUL \tST,  ST(2)", says [] "fmul" (register 32 ∷ register 34 ∷ [])) ∷
+    (" inc word ptr [\tesp] ", says [] "inc" (address (some Word) none (timesIn ((4, 1) ∷ [])) 0 ∷ [])) ∷
+    (" xchg ebp ,ds:  [\tesp+ ebp * (4q)] ", says [] "xchg" (register 5 ∷ address none (some 27) (timesIn ((4, 1) ∷ (5, 4) ∷ [])) 0 ∷ [])) ∷
+    (" lock inc real4 ptr [ebx][-8h+\t2884589418]", says (Lock ∷ []) "inc" (address (some Dword) none (timesIn ((3, 1) ∷ [])) 2884589410 ∷ [])) ∷
+    ("\tINC DWORD PTR EBX ; it's", says [] "inc" (register 3 ∷ [])) ∷
+    ("MOv dh  ,07;;", says [] "mov" (register 22 ∷ immediate 7 ∷ [])) ∷
+    ("\tJMP SHORT CX ", refused) ∷
+    ("fld tbyte ptr [ edi ][ (1000y * edx)]", says [] "fld" (address (some Tbyte) none (timesIn ((7, 1) ∷ (2, 8) ∷ [])) 0 ∷ [])) ∷
+    (" jMp NeaR $+010*  3;;", refused) ∷
+    ("jecxz ($) - 119", says [] "jecxz" (branch none 3977 ∷ [])) ∷
+    (" XCHG ECX  ,  [0571E57B8H +((5O  *2H))]", says [] "xchg" (register 1 ∷ address none none (timesIn []) 1461606338 ∷ [])) ∷
     []
 
 read-5 : Read lines-5

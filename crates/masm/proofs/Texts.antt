@@ -9,7 +9,7 @@ use lib.Ieee.Bits.{is-true, is-false}
 use lib.IntN.{pos, negℤ, _+ℤ_, +ℤ-idl}
 use Rattle.masm.specs.Tokens.{bytes, isDigit, isLetter, Token, word, sign, tokens, sameList, sameToken, parts, Table, lookup, after, front, isSaid, each, _>>=_}
 use Rattle.masm.specs.Expressions.{begins, Register, registers, Value, zero, expression}
-use Rattle.masm.specs.Operands.{Width, Near, widths, Label, labels, synonyms, segments, timesIn, wrapped}
+use Rattle.masm.specs.Operands.{Width, widths, Label, labels, synonyms, segments, timesIn, wrapped}
 use Rattle.masm.specs.Operands.{Operand, register, immediate, branch, address, addressOf, plainOf, typed, operand}
 use Rattle.masm.specs.Lines.{Prefix, prefixWords, Line, prefixed, operandsOf, instruction, line, shows, readTokens, read}
 use Rattle.masm.proofs.Tokens.{both, Leads, quiet, quiet-append, plain, plain-append, no-comma, plain-quiet, quiet-uncommented, unbroken, quiet-unbroken, one-part, part-before-comma, tokens-append, blank-between, comma-between}
@@ -99,44 +99,63 @@ pub record RegisterOperandText (r : Register) (u : List ℕ) : Type 0 where
 pub register-operand : {start r : ℕ} {u : List ℕ} → RegisterOperandText r u → OperandText start (register r) u
 register-operand {start} t = record { plainly = t .plainly; reads = t .reads start }
 
--- a branch target: perhaps `near ptr`, `$`, a sign and a number
-abbrev pub near-or-not : Bool → Option Width
-near-or-not near = cond near (some Near) none
+-- ---- Branch targets: perhaps a width, `$`, a sign and a number
 
-abbrev from-dollar : (near minus : Bool) → List Token → List Token
-from-dollar near minus ts =
-    cond near (word (bytes "near") ∷ word (bytes "ptr") ∷ []) [] ++ (word (bytes "$") ∷ sign (cond minus 45 43) ∷ ts)
+-- the text is `short` or `near ptr` with the blank after it, or nothing
+pub record WidthText (w : Option Width) (t : List ℕ) : Type 0 where
+  pub lead : List Token
+  pub leads : Leads lead t
+  pub plainly : T (plain lead)
+  pub names : (start : ℕ) (ts : List Token) → operand start (lead ++ word (bytes "$") ∷ ts) ≡ typed start w none (word (bytes "$") ∷ ts)
 
-branch-split : (near minus : Bool) (u : List ℕ)
-    → tokens (cond near (bytes "near ptr ") [] ++ (36 ∷ cond minus 45 43 ∷ u)) ≡ from-dollar near minus (tokens u)
+pub no-width-word : WidthText none []
+unfolding widths labels synonyms
+no-width-word = record { lead = []; leads = λ u. refl; plainly = tt; names = λ start ts. refl }
+
+pub short-word : WidthText (some 8) (bytes "short ")
+unfolding tokens widths labels synonyms
+short-word = record { lead = word (bytes "short") ∷ []; leads = λ u. refl; plainly = tt; names = λ start ts. refl }
+
+pub near-word : WidthText (some 32) (bytes "near ptr ")
+unfolding tokens widths labels synonyms
+near-word = record { lead = word (bytes "near") ∷ word (bytes "ptr") ∷ []; leads = λ u. refl; plainly = tt; names = λ start ts. refl }
+
+abbrev from-dollar : (minus : Bool) → List Token → List Token
+from-dollar minus ts = word (bytes "$") ∷ sign (cond minus 45 43) ∷ ts
+
+dollar-split : (minus : Bool) (u : List ℕ) → tokens (36 ∷ cond minus 45 43 ∷ u) ≡ from-dollar minus (tokens u)
 unfolding tokens
-branch-split false false u = refl
-branch-split false true u = refl
-branch-split true false u = refl
-branch-split true true u = refl
+dollar-split false u = refl
+dollar-split true u = refl
 
-branch-typed : (start c : ℕ) (near : Bool) (ts : List Token)
-    → operand start (cond near (word (bytes "near") ∷ word (bytes "ptr") ∷ []) [] ++ (word (bytes "$") ∷ sign c ∷ ts))
-    ≡ (expression (word (bytes "$") ∷ sign c ∷ ts) >>= λ v. cond (v .bracket || false) (addressOf (near-or-not near) none none v) (plainOf start (near-or-not near) none v))
-unfolding widths labels synonyms segments registers
-branch-typed start c false ts = refl
-branch-typed start c true ts = refl
+dollar-plain : (minus : Bool) (ts : List Token) → T (plain ts) → T (plain (from-dollar minus ts))
+dollar-plain false ts h = h
+dollar-plain true ts h = h
 
-branch-plain : (ts : List Token) (near minus : Bool) → T (plain ts) → T (plain (from-dollar near minus ts))
-branch-plain ts false false h = h
-branch-plain ts false true h = h
-branch-plain ts true false h = h
-branch-plain ts true true h = h
+-- `$` is no register, and no segment
+dollar-typed : (start : ℕ) (w : Option Width) (ts : List Token)
+    → typed start w none (word (bytes "$") ∷ ts)
+    ≡ (expression (word (bytes "$") ∷ ts) >>= λ v. cond (v .bracket || false) (addressOf w none none v) (plainOf start w none v))
+unfolding segments registers
+dollar-typed start none ts = refl
+dollar-typed start (some w) ts = refl
 
-pub branch-operand : {start n : ℕ} {u : List ℕ} (near minus : Bool) → NumberText n u
-    → OperandText start (branch (near-or-not near) (wrapped (pos start +ℤ cond minus (negℤ (pos n)) (pos n))))
-    (cond near (bytes "near ptr ") [] ++ (36 ∷ cond minus 45 43 ∷ u))
-branch-operand {start} {n} {u} near minus t =
-    let e = branch-split near minus u in
+pub branch-operand : {start n : ℕ} {w : Option Width} {t u : List ℕ} (minus : Bool) → WidthText w t → NumberText n u
+    → OperandText start (branch w (wrapped (pos start +ℤ cond minus (negℤ (pos n)) (pos n)))) (t ++ (36 ∷ cond minus 45 43 ∷ u))
+branch-operand {start} {n} {w} {t} {u} minus x y =
+    let ts = from-dollar minus (tokens u) in
+    let e : tokens (t ++ (36 ∷ cond minus 45 43 ∷ u)) ≡ x .lead ++ ts
+    = rw (x .leads, dollar-split minus u) in
     record {
-      plainly = rw e (branch-plain (tokens u) near minus (rw (t .one-token) tt));
+      plainly = rw e (plain-append (x .lead) ts (x .plainly) (dollar-plain minus (tokens u) (rw (y .one-token) tt)));
       reads =
-          rw (e, branch-typed start (cond minus 45 43) near (tokens u), dollar-value minus t, +ℤ-idl (cond minus (negℤ (pos n)) (pos n)));
+          rw (
+            e,
+            x .names start (sign (cond minus 45 43) ∷ tokens u),
+            dollar-typed start w (sign (cond minus 45 43) ∷ tokens u),
+            dollar-value minus y,
+            +ℤ-idl (cond minus (negℤ (pos n)) (pos n)),
+          );
     }
 
 -- ---- Addresses

@@ -3,7 +3,7 @@
 --   line        =  [instruction] [`;` comment]
 --   instruction =  {prefix word} mnemonic [operand {`,` operand}]
 --   operand     =  [type `ptr`] register
---               |  [`near` `ptr` | type `ptr`] [segment `:`] expression
+--               |  [`short` | `near` `ptr` | type `ptr`] [segment `:`] expression
 --   expression  =  term {(`+` | `-`) term}
 --   term        =  {`+` | `-`} factor {`*` {`+` | `-`} factor}
 --   factor      =  part {`(` expression `)` | `[` expression `]`}                what stands side by side is added
@@ -11,7 +11,8 @@
 --   number      =  digits [`h` | `d` | `t` | `o` | `q` | `b` | `y`]              a digit first, and below 2^32
 --
 -- A register in an expression stands between brackets. `$` is the address of the instruction. An operand with a bracket or a segment is
--- an address; one with `$` is a branch target; any other is an immediate.
+-- an address; one with `$` is a branch target; any other is an immediate. `short` and `near ptr` stand before a branch target alone, and
+-- say that the branch has 8 or 32 bits for its distance.
 -- What stands there is read, and not judged for what an instruction can encode: any registers and multiples may stand in a bracket, and
 -- a bracket with a lone number is an address.
 pub mod Tokens

@@ -9,14 +9,15 @@ use lib.IntN.{ℤ, pos, negsuc, _+ℤ_}
 use Rattle.masm.specs.Tokens.{Token, Table, table, lookup, front, isSaid, orElse, _>>=_}
 use Rattle.masm.specs.Expressions.{Register, registers, Value, expression}
 
--- ---- Before an expression: perhaps `near ptr` or a type and `ptr`, and perhaps a segment register and `:`
+-- ---- Before an expression: perhaps `short`, `near ptr` or a type and `ptr`, and perhaps a segment register and `:`
 
-pub data Width : Type 0 where
-  Near : Width
+-- how many bits a branch has for its distance, where a word says it
+abbrev pub Width : Type 0
+Width = ℕ
 
 unfoldable pub widths : Table Width
 unfolding table
-widths = table "near ptr" (Near ∷ [])
+widths = table "short, near ptr" (8 ∷ 32 ∷ [])
 
 pub data Label : Type 0 where
   Byte Word Dword Fword Qword Mmword Tbyte Xmmword Ymmword Zmmword : Label
@@ -45,7 +46,7 @@ pub data Operand : Type 0 where
   register : Register → Operand
   -- `0FFh`
   immediate : ℕ → Operand
-  -- `near ptr $+80h`
+  -- `$+80h`, `short $+80h`, `near ptr $+80h`
   branch : Option Width → (target : ℕ) → Operand
   -- `dword ptr fs:[ebx + esi * 4 - 8]`
   address : Option Label → (segment : Option Register) (times : Register → ℕ) (disp : ℕ) → Operand
@@ -60,7 +61,7 @@ abbrev pub wrapped : ℤ → ℕ
 wrapped (pos n) = n % 2 ^ 32
 wrapped (negsuc n) = (2 ^ 32 - suc n % 2 ^ 32) % 2 ^ 32
 
--- with a bracket or a segment: an address, without `near ptr` and `$`
+-- with a bracket or a segment: an address, without a width and `$`
 abbrev pub addressOf : Option Width → Option Label → Option Register → Value → Option Operand
 addressOf width label segment v =
     cond (isSaid width || not (eqb (v .starts) 0)) none (some (address label segment (timesIn (v .counts)) (wrapped (v .number))))

@@ -17,6 +17,7 @@ use Rattle.names.specs.declared.Arm.the-variants.{
   Movs,
   Cmps,
   Branch,
+  Call,
   Xbegin,
   Feni,
   Fdisi,
@@ -58,7 +59,7 @@ op name arm = record { name = bytes name; arm = arm }
 -- the opcodes, "in order from 0"
 unfoldable pub opcodes : List Opcode
 opcodes =
-    op "jmp" Branch ∷ op "call" Branch ∷ op "jecxz" Branch ∷ op "loop" Branch ∷ op "loopz" Branch ∷ op "loopnz" Branch ∷ op "jo" Branch ∷
+    op "jmp" Branch ∷ op "call" Call ∷ op "jecxz" Branch ∷ op "loop" Branch ∷ op "loopz" Branch ∷ op "loopnz" Branch ∷ op "jo" Branch ∷
     op "jno" Branch ∷ op "jb" Branch ∷ op "jnb" Branch ∷ op "jz" Branch ∷ op "jnz" Branch ∷ op "jna" Branch ∷ op "ja" Branch ∷
     op "js" Branch ∷ op "jns" Branch ∷ op "jp" Branch ∷ op "jnp" Branch ∷ op "jl" Branch ∷ op "jge" Branch ∷ op "jle" Branch ∷
     op "jg" Branch ∷
@@ -140,34 +141,35 @@ number Lds = 5
 number Movs = 6
 number Cmps = 7
 number Branch = 8
-number Xbegin = 9
-number Feni = 10
-number Fdisi = 11
-number Fsetpm = 12
-number Hreset = 13
-number Lsl = 14
-number Prefetch = 15
-number Sgdt = 16
-number Lss = 17
-number Nop = 18
-number Monitor = 19
-number Mwait = 20
-number Invlpgb = 21
-number Rdpru = 22
-number Scas = 23
-number Lods = 24
-number Psmash = 25
-number Pvalidate = 26
-number Incssp = 27
-number Wrss = 28
-number Pblendvb = 29
-number Lea = 30
-number Pushf = 31
-number Aam = 32
-number Fcom = 33
-number Fadd = 34
-number Fbld = 35
-number Fbstp = 36
+number Call = 9
+number Xbegin = 10
+number Feni = 11
+number Fdisi = 12
+number Fsetpm = 13
+number Hreset = 14
+number Lsl = 15
+number Prefetch = 16
+number Sgdt = 17
+number Lss = 18
+number Nop = 19
+number Monitor = 20
+number Mwait = 21
+number Invlpgb = 22
+number Rdpru = 23
+number Scas = 24
+number Lods = 25
+number Psmash = 26
+number Pvalidate = 27
+number Incssp = 28
+number Wrss = 29
+number Pblendvb = 30
+number Lea = 31
+number Pushf = 32
+number Aam = 33
+number Fcom = 34
+number Fadd = 35
+number Fbld = 36
+number Fbstp = 37
 
 -- the tables as the code holds and lends them: the names as one text with an offset for each, and each opcode's arm by its number
 abbrev pub MnemonicTable : List ℕ → List ℕ → Type 0

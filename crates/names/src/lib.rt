@@ -6,7 +6,7 @@ pub mod registers;
 pub mod segments;
 
 // The arms of document 000 in its order, after the variants of its general path. Where two opcodes of one arm print different
-// names or suffixes, they are arms of their own, so that after this the opcode serves for the name alone.
+// names, suffixes or words before `$`, they are arms of their own, so that after this the opcode serves for the name alone.
 pub enum Arm {
     General,
     Qword,
@@ -17,6 +17,7 @@ pub enum Arm {
     Movs,
     Cmps,
     Branch,
+    Call,
     Xbegin,
     Feni,
     Fdisi,

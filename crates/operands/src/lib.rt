@@ -71,6 +71,16 @@ pub enum Label {
     Missing,
 }
 
+// The word before the `$` of a branch.
+pub enum BranchWord {
+    // no text: `call $+80h`
+    None,
+    // `short `
+    Short,
+    // `near ptr `
+    Near,
+}
+
 // What stands after label and segment: nothing at all, a register by its byte, `st`, an immediate, an absolute of 4 or of 8
 // digits, a bracket, or a branch from `$`.
 pub enum Shown {
@@ -88,8 +98,12 @@ pub enum Shown {
     Dword(u32),
     // `[ebx + esi * 4 - 10h]`
     Bracket(Address),
-    // `$-80h`, `near ptr $+80h`
-    Branch { near: bool, minus: bool, size: u32 },
+    // `$-80h`, `short $+80h`, `near ptr $+80h`
+    Branch {
+        word: BranchWord,
+        minus: bool,
+        size: u32,
+    },
 }
 
 // One operand of a line. A segment of 0 is not shown.

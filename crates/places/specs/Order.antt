@@ -24,7 +24,7 @@ isNothing (Number value) = false
 isNothing (Word address) = false
 isNothing (Dword address) = false
 isNothing (Bracket address) = false
-isNothing (Branch near minus size) = false
+isNothing (Branch word minus size) = false
 
 -- after an operand of a line that shows nothing stands none that shows something
 abbrev pub fromTheLeft : Items → Bool

@@ -1,4 +1,4 @@
--- What a place shows of a record.
+-- What a place shows of a record, by the mode and the arm.
 -- Assumes nothing.
 use mathlib.Core.Bool.{Bool, cond, _&&_}
 use Prim.Native.Nat.{ℕ}
@@ -13,6 +13,7 @@ use Rattle.operands.specs.declared.Shown.{Shown}
 use Rattle.operands.specs.declared.Shown.the-variants.{Name, St}
 use Rattle.operands.specs.declared.Item.{Item}
 use Rattle.operands.specs.declared.Items.{Items}
+use Rattle.names.specs.declared.Arm.{Arm}
 use Rattle.branches.specs.declared.Mode.{Mode}
 use Rattle.branches.specs.Sums.{branchShown}
 use Rattle.places.specs.declared.Segment.{Segment}
@@ -40,22 +41,22 @@ valueShown short o = cond (short && isSt0 o) St (shownOf o)
 unfoldable pub operandShown : Label → Segment → Bool → Operand → Item
 operandShown label segment short o = item (labelShown label o) (segmentShown segment o) (valueShown short o)
 
--- the branch of a record's operand 0: its kind, its distance and the instruction's length
-abbrev pub branchOf : Mode → Instruction → Shown
-branchOf mode i = branchShown mode (immediateKind (i .a)) (immediateOf (i .a)) (i .length)
+-- the branch of a record's operand 0: the arm that shows it, its kind, its distance and the instruction's length
+abbrev pub branchOf : Mode → Arm → Instruction → Shown
+branchOf mode arm i = branchShown mode arm (immediateKind (i .a)) (immediateOf (i .a)) (i .length)
 
-unfoldable pub itemAt : Mode → Instruction → Place → Item
-itemAt mode i place.Nothing = nothing
-itemAt mode i (place.Register reg) = bare (Name reg)
-itemAt mode i place.Branch = bare (branchOf mode i)
-itemAt mode i (place.Operand k label segment short) = operandShown (labelAt label) segment short (operandIn i k)
+unfoldable pub itemAt : Mode → Arm → Instruction → Place → Item
+itemAt mode arm i place.Nothing = nothing
+itemAt mode arm i (place.Register reg) = bare (Name reg)
+itemAt mode arm i place.Branch = bare (branchOf mode arm i)
+itemAt mode arm i (place.Operand k label segment short) = operandShown (labelAt label) segment short (operandIn i k)
 
 -- what a plan shows, from the left
-unfoldable pub itemsAt : Mode → Instruction → Plan → Items
-itemsAt mode i plan =
+unfoldable pub itemsAt : Mode → Arm → Instruction → Plan → Items
+itemsAt mode arm i plan =
     record {
-      a = itemAt mode i (plan .a);
-      b = itemAt mode i (plan .b);
-      c = itemAt mode i (plan .c);
-      d = itemAt mode i (plan .d);
+      a = itemAt mode arm i (plan .a);
+      b = itemAt mode arm i (plan .b);
+      c = itemAt mode arm i (plan .c);
+      d = itemAt mode arm i (plan .d);
     }

@@ -19,7 +19,7 @@ pub enum Place {
     Nothing,
     // `eax`, of `hreset 0, eax`
     Register(u8),
-    // `$+80h`
+    // `$+80h`, `short $+80h`
     Branch,
     // `ecx`, `dword ptr fs:[ebx]`, `st`
     Operand {

@@ -16,11 +16,11 @@ use Rattle.printed.specs.TableListing.{listingRows}
 use Rattle.printed.specs.TableLimit.{limitRows}
 
 -- the rows, and the pairs of bytes and mode
-pub table-rows : length table ≡ 915
+pub table-rows : length table ≡ 1017
 unfolding table computed branchRows generalRows nameRows armRows refusalRows listingRows limitRows
 table-rows = refl
 
-pub table-pairs : pairsIn table ≡ 1770
+pub table-pairs : pairsIn table ≡ 1850
 unfolding table computed branchRows generalRows nameRows armRows refusalRows listingRows limitRows
 table-pairs = refl
 

@@ -23,10 +23,10 @@ listingRows =
     -- Listings: refused records among lines, and a cut after them
     listing both "01 0000" (prints "; refused 2\n") ∷
     listing crate "01 0013 0021 00 04 00 FFFFFFFF 00000000 01 0300000000 0000 0013 0000 00 02 00 0000007E 00000000 01 0300000000 000E 0000 00 00 00 00000000 00000000 00" (prints "push 0FFFFFFFFh\n; refused 2\njmp $-80h\n; refused 3\n") ∷
-    listing straight "01 0013 0021 00 04 00 FFFFFFFF 00000000 01 0300000000 0000 0013 0000 00 02 00 0000007E 00000000 01 0300000000 000E 0000 00 00 00 00000000 00000000 00" (prints "push 0FFFFFFFFh\n; refused 2\njmp $+80h\n; refused 3\n") ∷
+    listing straight "01 0013 0021 00 04 00 FFFFFFFF 00000000 01 0300000000 0000 0013 0000 00 02 00 0000007E 00000000 01 0300000000 000E 0000 00 00 00 00000000 00000000 00" (prints "push 0FFFFFFFFh\n; refused 2\njmp short $+80h\n; refused 3\n") ∷
     listing both "01 000E 0040 00 04 00 00000000 00000000 00 0013 0021 00 04 00 FFFFFFFF 00000000 01 0300000000 0013 0017 00 04 00 00000000 00000000 01 0B00000000 00 05 01 01" (prints "; refused 4\npush 0FFFFFFFFh\n; refused 5\n; cut\n") ∷
     listing crate "01 0013 0000 00 02 00 0000007E 00000000 01 0300000000 0013 0000 00 05 00 0000007B 00000000 01 0500000000 0013 0000 00 02 00 0000007E 00000000 01 0300000000 00" (prints "jmp $-80h\njmp near ptr $+80h\njmp $-80h\n; cut\n") ∷
-    listing straight "01 0013 0000 00 02 00 0000007E 00000000 01 0300000000 0013 0000 00 05 00 0000007B 00000000 01 0500000000 0013 0000 00 02 00 0000007E 00000000 01 0300000000 00" (prints "jmp $+80h\njmp near ptr $+80h\njmp $+80h\n; cut\n") ∷
+    listing straight "01 0013 0000 00 02 00 0000007E 00000000 01 0300000000 0013 0000 00 05 00 0000007B 00000000 01 0500000000 0013 0000 00 02 00 0000007E 00000000 01 0300000000 00" (prints "jmp short $+80h\njmp near ptr $+80h\njmp short $+80h\n; cut\n") ∷
     -- Listings: modes that are neither 0 nor 1
     listing unknown "" (answers 1) ∷
     listing unknown "01" (answers 1) ∷

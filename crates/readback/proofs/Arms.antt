@@ -2,6 +2,7 @@
 -- Assumes nothing.
 use mathlib.Core.Path.{_≡_, refl, sym, _∙_}
 use mathlib.Core.Bool.{Bool, true, false, cond, not, _&&_, _||_, true≢false, or-false}
+use mathlib.Core.List.{[], _∷_}
 use borrow.Author.Tests.{not-false}
 use lib.Dec.{eqb}
 use Rattle.operands.specs.Kinds.{isAbsent, isRegister, isRegisterR, isMemory}
@@ -11,7 +12,7 @@ use Rattle.operands.specs.declared.Items.{Items}
 use Rattle.bodies.specs.WellFormed.{WellFormed}
 use Rattle.bodies.proofs.Picks.{both-left, both-right, picked}
 use Rattle.branches.specs.declared.Mode.{Mode}
-use Rattle.names.specs.Among.{isArm}
+use Rattle.names.specs.Among.{isArm, isOneOf}
 use Rattle.names.specs.declared.Arm.{Arm}
 use Rattle.names.specs.declared.Arm.the-variants.{
   General,
@@ -23,6 +24,7 @@ use Rattle.names.specs.declared.Arm.the-variants.{
   Movs,
   Cmps,
   Branch,
+  Call,
   Xbegin,
   Feni,
   Fdisi,
@@ -64,9 +66,13 @@ use Rattle.readback.proofs.SoundPlaces.{placeSound, sound-place}
 
 -- ---- Plans
 
+-- the arms of relative branches
+abbrev pub isRelative : Arm → Bool
+isRelative arm = isOneOf arm (Branch ∷ Call ∷ [])
+
 -- the arm shows a branch of this record
 abbrev pub branches : Arm → Instruction → Bool
-branches arm i = (isArm arm Branch && isBranch (i .a)) || (isArm arm Xbegin && isXbegin (i .a))
+branches arm i = (isRelative arm && isBranch (i .a)) || (isArm arm Xbegin && isXbegin (i .a))
 
 abbrev planSound : (branches : Bool) → Plan → Bool
 planSound b plan = placeSound b (plan .a) && placeSound b (plan .b) && placeSound b (plan .c) && placeSound b (plan .d)
@@ -92,7 +98,10 @@ plan-sound Callf i s = refl
 plan-sound Lds i s = refl
 plan-sound Movs i s = refl
 plan-sound Cmps i s = refl
-plan-sound Branch i s = either-plan Branch i (isBranch (i .a)) (one place.Branch) (generalPlan i) (λ e. rw (or-false (isBranch (i .a)), e)) (λ e. refl)
+plan-sound Branch i s =
+    either-plan Branch i (isBranch (i .a)) (one place.Branch) (generalPlan i) (λ e. rw (or-false (isBranch (i .a)), e)) (λ e. refl)
+plan-sound Call i s =
+    either-plan Call i (isBranch (i .a)) (one place.Branch) (generalPlan i) (λ e. rw (or-false (isBranch (i .a)), e)) (λ e. refl)
 plan-sound Xbegin i s = either-plan Xbegin i (isXbegin (i .a)) (one place.Branch) (generalPlan i) (λ e. rw e) (λ e. refl)
 plan-sound Feni i s = refl
 plan-sound Fdisi i s = refl
@@ -135,15 +144,15 @@ pub record SoundItems (branches : Bool) (x : Items) : Type 0 where
   pub c : SoundItem branches (x .c)
   pub d : SoundItem branches (x .d)
 
-items-of : {b : Bool} (mode : Mode) (i : Instruction) → WellFormed i → (plan : Plan) → planSound b plan ≡ true → SoundItems b (itemsAt mode i plan)
+items-of : {b : Bool} (mode : Mode) (arm : Arm) (i : Instruction) → WellFormed i → (plan : Plan) → planSound b plan ≡ true → SoundItems b (itemsAt mode arm i plan)
 unfolding itemsAt
-items-of mode i w plan e =
+items-of mode arm i w plan e =
     record {
-      a = sound-place mode i w (plan .a) (search (both-left, both-right, e));
-      b = sound-place mode i w (plan .b) (search (both-left, both-right, e));
-      c = sound-place mode i w (plan .c) (search (both-left, both-right, e));
-      d = sound-place mode i w (plan .d) (search (both-left, both-right, e));
+      a = sound-place mode arm i w (plan .a) (search (both-left, both-right, e));
+      b = sound-place mode arm i w (plan .b) (search (both-left, both-right, e));
+      c = sound-place mode arm i w (plan .c) (search (both-left, both-right, e));
+      d = sound-place mode arm i w (plan .d) (search (both-left, both-right, e));
     }
 
-pub items-sound : (mode : Mode) (arm : Arm) (i : Instruction) → WellFormed i → shapeRefused arm i ≡ false → SoundItems (branches arm i) (itemsAt mode i (planOf arm i))
-items-sound mode arm i w s = items-of mode i w (planOf arm i) (plan-sound arm i s)
+pub items-sound : (mode : Mode) (arm : Arm) (i : Instruction) → WellFormed i → shapeRefused arm i ≡ false → SoundItems (branches arm i) (itemsAt mode arm i (planOf arm i))
+items-sound mode arm i w s = items-of mode arm i w (planOf arm i) (plan-sound arm i s)

@@ -1,77 +1,94 @@
--- Where MASM's reader takes printed branches to go, in both modes.
+-- Where MASM's reader takes printed branches to go, and with which width, in both modes.
 -- Assumes nothing.
 use mathlib.Core.Path.{_≡_, refl, sym, ap, subst, _∙_}
-use mathlib.Core.Bool.{Bool, true, _&&_}
+use mathlib.Core.Bool.{Bool, true, false, cond, _&&_}
 use mathlib.Core.List.{List, [], _∷_}
 use mathlib.Core.Logic.{inl, inr, _↔_}
-use mathlib.Core.Option.{Option}
-use Prim.Native.Nat.{ℕ, _+_, _%_, _^_, _<_}
-use native.Mathlib.Decide.{decLt}
+use mathlib.Core.Option.{Option, none, some}
+use Prim.Native.Nat.{ℕ, zero, suc, _+_, _%_, _^_, _<_}
+use native.Mathlib.Decide.{ℕ-discrete, decLt}
 use native.Mathlib.Omega.{arith}
+use borrow.Author.Tests.{ne-eqb}
 use lib.Dec.{eqb}
 use lib.IntN.{ℤ, pos, _+ℤ_, +ℤ-assoc, +ℤ-comm}
 use lib.ListN.{drop, replicate, List·getD-append, getD-replicate}
 use Rattle.operands.specs.declared.Operand.{Operand}
 use Rattle.operands.specs.declared.Operand.the-variants.{Absent, Register, Imm, Absolute16, Absolute32, Memory}
 use Rattle.operands.specs.declared.Instruction.{Instruction}
+use Rattle.operands.specs.declared.BranchWord.the-variants.{None, Near}
 use Rattle.bodies.specs.WellFormed.{Kept, WellFormed}
 use Rattle.operands.specs.Kinds.{i8, i32}
 use Rattle.bodies.specs.Decoding.{instructionOf}
 use Rattle.branches.specs.declared.Mode.{Mode}
 use Rattle.branches.specs.declared.Mode.the-variants.{Crate, Straight}
-use Rattle.branches.specs.Sums.{signed, branchSum, branchShown, from128to255, modulo}
+use Rattle.branches.specs.Sums.{signed, branchSum, branchWord, branchShown, from128to255, modulo}
 use Rattle.names.specs.Opcodes.{opcodes, arms, armOf}
 use Rattle.operands.specs.Parts.{immediateKind, immediateOf}
 use Rattle.arms.specs.Tests.{isBranch, isXbegin}
 use Rattle.arms.specs.Plans.{one, planOf}
 use Rattle.places.specs.Places.{itemAt, itemsAt}
 use Rattle.places.specs.declared.Place.the-variants as place
-use Rattle.names.specs.declared.Arm.the-variants.{General, Branch, Xbegin}
+use Rattle.names.specs.declared.Arm.the-variants.{General, Branch, Call, Xbegin}
 use Rattle.records.specs.Records.{modeOf, lineAt, recordText}
 use Rattle.records.specs.declared.Asked.{Asked}
 use Rattle.masm.specs.Operands.{Width, branch}
 use Rattle.readback.specs.Meaning.{widthOf, meaning}
 use Rattle.readback.specs.Printed.{Printed}
-use Rattle.readback.specs.Targets.{BranchRecord, short, long, distanceOf, recordTarget, beforeDollar, BranchesTo, mode0Sum, FitsByte, FitsMode0}
+use Rattle.readback.specs.Targets.{BranchRecord, short, long, distanceOf, recordTarget, BranchesTo, mode0Sum, mode0Width, noShortForm, straightWidth, FitsByte, FitsMode0}
 use Rattle.readback.proofs.Modulo.{modulo-plus}
 use Rattle.readback.proofs.Sums.{by-sign, modulo-wide, same-if-fits, fits-if-same, Short, sum-within, after-start, without-start, wide-sum}
 use Rattle.readback.proofs.Readback.{well, reads-back}
 
--- ---- What the line of a branch record shows
+-- ---- The plan of a branch record
 
-relative : (k : ℕ) → k < 22 → armOf k ≡ Branch
+-- the arms of the opcodes up to 22: CALL is 1, XBEGIN 22, and the others are jumps
+jump-arm : (k : ℕ) → k < 22 → (k ≡ 1 → ⊥) → armOf k ≡ Branch
 unfolding armOf arms opcodes
-relative k h = List·getD-append (replicate 22 Branch) (drop 22 arms) General k h ∙ getD-replicate 22 k Branch General h
+jump-arm zero h n = refl
+jump-arm (suc zero) h n = absurd (n refl)
+jump-arm (suc (suc k)) h n =
+    List·getD-append (replicate 20 Branch) (drop 22 arms) General k (omega arith) ∙ getD-replicate 20 k Branch General (omega arith)
 
-transaction : armOf 22 ≡ Xbegin
+call-arm : armOf 1 ≡ Call
 unfolding armOf arms opcodes
-transaction = refl
+call-arm = refl
+
+xbegin-arm : armOf 22 ≡ Xbegin
+unfolding armOf arms opcodes
+xbegin-arm = refl
+
+-- a branch record by its arm, with its test, and whether it has a short form
+data ByArm (i : Instruction) : Type 0 where
+  jump : armOf (i .opcode) ≡ Branch → isBranch (i .a) ≡ true → noShortForm i ≡ false → ByArm i
+  call : armOf (i .opcode) ≡ Call → isBranch (i .a) ≡ true → noShortForm i ≡ true → ByArm i
+  xbegin : armOf (i .opcode) ≡ Xbegin → isXbegin (i .a) ≡ true → noShortForm i ≡ true → ByArm i
 
 module _ (i : Instruction) where
-  at-relative : armOf (i .opcode) ≡ Branch → isBranch (i .a) ≡ true → planOf (armOf (i .opcode)) i ≡ one place.Branch
-  unfolding planOf
-  at-relative e k = rw (e, k)
-
-  at-transaction : armOf (i .opcode) ≡ Xbegin → isXbegin (i .a) ≡ true → planOf (armOf (i .opcode)) i ≡ one place.Branch
-  unfolding planOf
-  at-transaction e k = rw (e, k)
-
-  shows-branch : BranchRecord i → planOf (armOf (i .opcode)) i ≡ one place.Branch
-  shows-branch (short h k) = at-relative (relative (i .opcode) h) (rw k)
-  shows-branch (long h k) =
-      elim (decLt (i .opcode) 22) [
-        | yes l ↦ at-relative (relative (i .opcode) l) (rw k)
-        | no l ↦ let e : i .opcode ≡ 22 = omega arith in at-transaction (ap armOf e ∙ transaction) (rw k)
+  by-opcode : i .opcode < 22 → isBranch (i .a) ≡ true → ByArm i
+  by-opcode h k =
+      elim (ℕ-discrete (i .opcode) 1) [
+        | yes e ↦ call (ap armOf e ∙ call-arm) k (rw e)
+        | no n ↦ jump (jump-arm (i .opcode) h n) k (rw (ne-eqb (i .opcode) 1 n, ne-eqb (i .opcode) 22 (λ e. omega arith)))
       ]
 
--- the sum that is shown
-abbrev sumOf : Mode → Instruction → ℤ
-sumOf mode i = branchSum mode (immediateKind (i .a)) (immediateOf (i .a)) (i .length)
+  by-arm : BranchRecord i → ByArm i
+  by-arm (short h k) = by-opcode h (rw k)
+  by-arm (long h k) =
+      elim (decLt (i .opcode) 22) [
+        | yes l ↦ by-opcode l (rw k)
+        | no l ↦ let e : i .opcode ≡ 22 = omega arith in xbegin (ap armOf e ∙ xbegin-arm) (rw k) (rw e)
+      ]
 
-abbrev nearOf : Mode → Instruction → Bool
-nearOf mode i = eqb (immediateKind (i .a)) i32 && from128to255 (sumOf mode i)
+  shows-branch : ByArm i → planOf (armOf (i .opcode)) i ≡ one place.Branch
+  unfolding planOf
+  shows-branch (jump e k n) = rw (e, k)
+  shows-branch (call e k n) = rw (e, k)
+  shows-branch (xbegin e k n) = rw (e, k)
 
 -- ---- The sum that is shown
+
+abbrev sumOf : Mode → Instruction → ℤ
+sumOf mode i = branchSum mode (immediateKind (i .a)) (immediateOf (i .a)) (i .length)
 
 module _ (i : Instruction) where
   -- the bits of the sum
@@ -93,18 +110,38 @@ module _ (i : Instruction) where
   unfolding branchSum
   sum-long mode k = rw k
 
-  -- so what stands before `$` is the same in both modes
-  near-in-both : (mode : Mode) → BranchRecord i → widthOf (nearOf mode i) ≡ beforeDollar i
-  near-in-both mode (short h k) = rw k
-  near-in-both mode (long h k) = rw (sum-long mode k)
-
   -- mode 0 wraps in the width of the distance
   sum-in-mode-0 : BranchRecord i → sumOf Crate i ≡ mode0Sum i
   unfolding branchSum
   sum-in-mode-0 (short h k) = rw k
   sum-in-mode-0 (long h k) = rw k
 
--- a printed branch record is read as a branch, to the start and the sum that is shown
+-- ---- The width that is shown
+
+abbrev widthIn : Mode → Instruction → Option Width
+widthIn mode i = widthOf (branchWord mode (armOf (i .opcode)) (immediateKind (i .a)) (sumOf mode i))
+
+near-width : (b : Bool) → widthOf (cond b Near None) ≡ cond b (some 32) none
+near-width true = refl
+near-width false = refl
+
+module _ (i : Instruction) where
+  -- mode 1 has that of the kind, unless there is no short form
+  width-straight : ByArm i → BranchRecord i → widthIn Straight i ≡ straightWidth i
+  width-straight (jump e k n) (short h s) = rw (e, n, s)
+  width-straight (jump e k n) (long h s) = rw (e, n, s)
+  width-straight (call e k n) r = rw (e, n)
+  width-straight (xbegin e k n) r = rw (e, n)
+
+  -- mode 0 goes by kind and sum
+  width-in-mode-0 : BranchRecord i → widthIn Crate i ≡ mode0Width i
+  width-in-mode-0 r =
+      near-width (eqb (immediateKind (i .a)) i32 && from128to255 (sumOf Crate i))
+      ∙ ap (λ (z : ℤ). cond (eqb (immediateKind (i .a)) i32 && from128to255 z) (some 32) none) (sum-in-mode-0 i r)
+
+-- ---- How the line is read
+
+-- a printed branch record is read as a branch with the width that is shown, to the start and the sum that is shown
 module _ {asked : Asked} {body : List ℕ} (p : Printed asked body) (r : BranchRecord (instructionOf body)) (start : ℕ) where
   abbrev i : Instruction
   i = instructionOf body
@@ -113,21 +150,22 @@ module _ {asked : Asked} {body : List ℕ} (p : Printed asked body) (r : BranchR
   abbrev shownTarget : ℕ
   shownTarget = modulo (pos start +ℤ sumOf (modeOf asked) i)
 
-  pub one-branch : (meaning start (lineAt asked body)) .operands ≡ branch (beforeDollar i) shownTarget ∷ []
+  pub one-branch : (meaning start (lineAt asked body)) .operands ≡ branch (widthIn (modeOf asked) i) shownTarget ∷ []
   unfolding meaning lineAt itemsAt itemAt branchShown
-  one-branch = rw (shows-branch i r, by-sign (sumOf (modeOf asked) i), near-in-both i (modeOf asked) r)
+  one-branch = rw (shows-branch i (by-arm i r), by-sign (sumOf (modeOf asked) i))
 
-  -- so it goes to an address exactly where the two are the same
-  goes : {target : ℕ} → shownTarget ≡ target → BranchesTo start (recordText asked body) (beforeDollar i) target
-  goes e = record { line = meaning start (lineAt asked body); reads = reads-back p start; operand = rw (← e) one-branch }
+  -- so it has a width and a target exactly where they are those
+  goes : {width : Option Width} {target : ℕ} → widthIn (modeOf asked) i ≡ width → shownTarget ≡ target → BranchesTo start (recordText asked body) width target
+  goes w e = record { line = meaning start (lineAt asked body); reads = reads-back p start; operand = rw (← w, ← e) one-branch }
 
-  goes-only : {width : Option Width} {target : ℕ} → BranchesTo start (recordText asked body) width target → shownTarget ≡ target
+  goes-only : {width : Option Width} {target : ℕ} → BranchesTo start (recordText asked body) width target
+      → (widthIn (modeOf asked) i ≡ width) × (shownTarget ≡ target)
   goes-only b =
       let x = reads-back p start in
       let y = one-branch in
       let z = b .reads in
       let w = b .operand in
-      cc
+      (cc, cc)
 
 -- ---- The sum against the target
 
@@ -163,7 +201,7 @@ module _ (i : Instruction) where
   straight-target start (short h k) = rw (sum-straight i k) (sym (target-sum start i))
   straight-target start (long h k) = long-target Straight start k
 
-  -- in mode 0 a sum of kind 3 is kept exactly where it fits 8 (bits i)
+  -- in mode 0 a sum of kind 3 is kept exactly where it fits 8 bits
   module _ (w : WellFormed i) (k : immediateKind (i .a) ≡ i8) (start : ℕ) where
     whole-sum : distanceOf i +ℤ pos (i .length) ≡ signed 32 (bits i)
     whole-sum =
@@ -192,26 +230,43 @@ crate-asked : {asked : Asked} → asked .mode ≡ 0 → modeOf asked ≡ Crate
 crate-asked e = rw e
 
 module _ {asked : Asked} {body : List ℕ} (p : Printed asked body) where
-  -- Mode 1: every printed branch record is read as a branch to start plus length plus distance, modulo 2^32.
-  pub straight-branch : asked .mode ≡ 1 → BranchRecord (instructionOf body) → (start : ℕ)
-      → BranchesTo start (recordText asked body) (beforeDollar (instructionOf body)) (recordTarget start (instructionOf body))
-  straight-branch m r start = goes p r start (rw (straight-asked m) (straight-target (instructionOf body) start r))
+  module _ (m : asked .mode ≡ 1) (r : BranchRecord (instructionOf body)) (start : ℕ) where
+    shown-straight : widthIn (modeOf asked) (instructionOf body) ≡ straightWidth (instructionOf body)
+    shown-straight = rw (straight-asked m) (width-straight (instructionOf body) (by-arm (instructionOf body) r) r)
+
+    -- Mode 1: every printed branch record is read as a branch to start plus length plus distance, modulo 2^32, with the width of mode 1,
+    pub straight-branch : BranchesTo start (recordText asked body) (straightWidth (instructionOf body)) (recordTarget start (instructionOf body))
+    straight-branch = goes p r start shown-straight (rw (straight-asked m) (straight-target (instructionOf body) start r))
+
+    -- and with no other.
+    pub straight-width-only : {width : Option Width} {target : ℕ} → BranchesTo start (recordText asked body) width target
+        → straightWidth (instructionOf body) ≡ width
+    straight-width-only b = sym shown-straight ∙ goes-only p r start b .0
 
   module _ (m : asked .mode ≡ 0) (r : BranchRecord (instructionOf body)) (start : ℕ) where
-    -- Mode 0: it is read as a branch to the start plus the sum as it wraps, modulo 2^32.
-    pub mode-0-shown : BranchesTo start (recordText asked body) (beforeDollar (instructionOf body)) (modulo (pos start +ℤ mode0Sum (instructionOf body)))
-    mode-0-shown = goes p r start (rw (crate-asked m) (ap (λ (z : ℤ). modulo (pos start +ℤ z)) (sum-in-mode-0 (instructionOf body) r)))
+    shown-mode-0 : widthIn (modeOf asked) (instructionOf body) ≡ mode0Width (instructionOf body)
+    shown-mode-0 = rw (crate-asked m) (width-in-mode-0 (instructionOf body) r)
 
-    -- That is the target exactly where the distance is 32 bits wide, or its sum with the length is from -128 to 127.
+    -- Mode 0: it is read as a branch to the start plus the sum as it wraps, modulo 2^32, with the width of mode 0,
+    pub mode-0-shown : BranchesTo start (recordText asked body) (mode0Width (instructionOf body)) (modulo (pos start +ℤ mode0Sum (instructionOf body)))
+    mode-0-shown =
+        goes p r start shown-mode-0 (rw (crate-asked m) (ap (λ (z : ℤ). modulo (pos start +ℤ z)) (sum-in-mode-0 (instructionOf body) r)))
+
+    -- and with no other.
+    pub mode-0-width-only : {width : Option Width} {target : ℕ} → BranchesTo start (recordText asked body) width target
+        → mode0Width (instructionOf body) ≡ width
+    mode-0-width-only b = sym shown-mode-0 ∙ goes-only p r start b .0
+
+    -- It goes to the target exactly where the distance is 32 bits wide, or its sum with the length is from -128 to 127.
     goes-if-fits : BranchRecord (instructionOf body) → FitsMode0 (instructionOf body)
-        → BranchesTo start (recordText asked body) (beforeDollar (instructionOf body)) (recordTarget start (instructionOf body))
+        → BranchesTo start (recordText asked body) (mode0Width (instructionOf body)) (recordTarget start (instructionOf body))
     goes-if-fits (short h k) (inl e) = absurd (omega arith)
-    goes-if-fits (short h k) (inr f) = goes p r start (rw (crate-asked m) (short-fits (instructionOf body) (well p) k start f))
-    goes-if-fits (long h k) c = goes p r start (rw (crate-asked m) (long-target (instructionOf body) Crate start k))
+    goes-if-fits (short h k) (inr f) = goes p r start shown-mode-0 (rw (crate-asked m) (short-fits (instructionOf body) (well p) k start f))
+    goes-if-fits (long h k) c = goes p r start shown-mode-0 (rw (crate-asked m) (long-target (instructionOf body) Crate start k))
 
     fits-if-goes : {width : Option Width} → BranchRecord (instructionOf body)
         → BranchesTo start (recordText asked body) width (recordTarget start (instructionOf body)) → FitsMode0 (instructionOf body)
-    fits-if-goes (short h k) b = inr (fits-short (instructionOf body) (well p) k start (rw (crate-asked m) at (goes-only p r start b)))
+    fits-if-goes (short h k) b = inr (fits-short (instructionOf body) (well p) k start (rw (crate-asked m) at (goes-only p r start b .1)))
     fits-if-goes (long h k) b = inl k
 
     -- whatever stands before `$`
@@ -219,6 +274,6 @@ module _ {asked : Asked} {body : List ℕ} (p : Printed asked body) where
         → FitsMode0 (instructionOf body)
     mode-0-only b = fits-if-goes r b
 
-    pub mode-0-branch : BranchesTo start (recordText asked body) (beforeDollar (instructionOf body)) (recordTarget start (instructionOf body))
+    pub mode-0-branch : BranchesTo start (recordText asked body) (mode0Width (instructionOf body)) (recordTarget start (instructionOf body))
         ↔ FitsMode0 (instructionOf body)
     mode-0-branch = (mode-0-only, goes-if-fits r)

@@ -20,7 +20,7 @@ use Rattle.bodies.proofs.Picks.{neither-left, neither-right, either, both-left,
 use Rattle.names.specs.Opcodes.{opcodeCount, opcodes, arms, armOf}
 use Rattle.operands.specs.Parts.{immediateKind}
 use Rattle.arms.specs.Tests.{isBranch, isXbegin}
-use Rattle.names.specs.declared.Arm.the-variants.{Branch, Xbegin}
+use Rattle.names.specs.declared.Arm.the-variants.{Xbegin}
 use Rattle.names.specs.Among.{isArm}
 use Rattle.lines.specs.declared.Line.{Line}
 use Rattle.records.specs.Records.{armAt, lineAt, recordText}
@@ -33,7 +33,7 @@ use Rattle.readback.specs.Printed.{Printed}
 use Rattle.readback.specs.Targets.{BranchRecord, short, long, isTarget, anyTarget, ShowsBranch}
 use Rattle.readback.proofs.Sound.{isBranchShown, SoundItem, Sound}
 use Rattle.readback.proofs.Lines.{implied}
-use Rattle.readback.proofs.Arms.{branches}
+use Rattle.readback.proofs.Arms.{isRelative, branches}
 use Rattle.readback.proofs.Readback.{well, sound, reads-back}
 use Rattle.readback.proofs.Branching.{one-branch}
 
@@ -52,7 +52,7 @@ shown-target start l s (Number value) e = refl
 shown-target start l s (Word address) e = refl
 shown-target start l s (Dword address) e = refl
 shown-target start l s (Bracket address) e = refl
-shown-target start l s (BranchShown near minus size) e = absurd (true≢false e)
+shown-target start l s (BranchShown word minus size) e = absurd (true≢false e)
 
 is-no-branch : (b : Bool) → (b ≡ true → false ≡ true) → b ≡ false
 is-no-branch true f = sym (f refl)
@@ -70,7 +70,7 @@ no-target start l s =
 
 -- ---- Which opcodes have an arm that shows branches
 
-relative-below : T (below opcodeCount (λ k. not (isArm (armOf k) Branch) || ltb k 22))
+relative-below : T (below opcodeCount (λ k. not (isRelative (armOf k)) || ltb k 22))
 unfolding armOf arms opcodes
 relative-below = tt
 
@@ -79,10 +79,10 @@ unfolding armOf arms opcodes
 xbegin-alone = tt
 
 -- what the test says of an opcode
-relative-if : (k : ℕ) → k < opcodeCount → isArm (armOf k) Branch ≡ true → k < 22
+relative-if : (k : ℕ) → k < opcodeCount → isRelative (armOf k) ≡ true → k < 22
 relative-if k h e =
-    let t = below-at opcodeCount (λ k. not (isArm (armOf k) Branch) || ltb k 22) relative-below k h in
-    ltb-true k 22 (implied (isArm (armOf k) Branch) (ltb k 22) (is-true (not (isArm (armOf k) Branch) || ltb k 22) t) e)
+    let t = below-at opcodeCount (λ k. not (isRelative (armOf k)) || ltb k 22) relative-below k h in
+    ltb-true k 22 (implied (isRelative (armOf k)) (ltb k 22) (is-true (not (isRelative (armOf k)) || ltb k 22) t) e)
 
 xbegin-if : (k : ℕ) → k < opcodeCount → isArm (armOf k) Xbegin ≡ true → k ≡ 22
 xbegin-if k h e =
@@ -92,10 +92,10 @@ xbegin-if k h e =
 branch-record : (i : Instruction) → i .opcode < opcodeCount → branches (armOf (i .opcode)) i ≡ true → BranchRecord i
 branch-record i h e =
     let arm = armOf (i .opcode) in
-    elim (either (isArm arm Branch && isBranch (i .a)) (isArm arm Xbegin && isXbegin (i .a)) e) [
+    elim (either (isRelative arm && isBranch (i .a)) (isArm arm Xbegin && isXbegin (i .a)) e) [
       | inl f ↦
-          let k = relative-if (i .opcode) h (both-left (isArm arm Branch) (isBranch (i .a)) f) in
-          elim (either (eqb (immediateKind (i .a)) i8) (eqb (immediateKind (i .a)) i32) (both-right (isArm arm Branch) (isBranch (i .a)) f)) [
+          let k = relative-if (i .opcode) h (both-left (isRelative arm) (isBranch (i .a)) f) in
+          elim (either (eqb (immediateKind (i .a)) i8) (eqb (immediateKind (i .a)) i32) (both-right (isRelative arm) (isBranch (i .a)) f)) [
             | inl g ↦ short k (eqb-true (immediateKind (i .a)) i8 g)
             | inr g ↦ long (omega arith) (eqb-true (immediateKind (i .a)) i32 g)
           ]

@@ -11,6 +11,7 @@ pub mod Arms
 pub mod Sums
 pub mod Readback
 pub mod Branching
+pub mod Widths
 pub mod Exactly
 pub mod Counterexample
 pub mod Records

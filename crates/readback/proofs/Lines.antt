@@ -43,7 +43,7 @@ shows-something (Number value) = refl
 shows-something (Word address) = refl
 shows-something (Dword address) = refl
 shows-something (Bracket address) = refl
-shows-something (Branch near minus size) = refl
+shows-something (Branch word minus size) = refl
 
 is-nothing : (x : Shown) → isNothing x ≡ true → x ≡ Nothing
 is-nothing Nothing e = refl
@@ -53,7 +53,7 @@ is-nothing (Number value) e = absurd (false≢true e)
 is-nothing (Word address) e = absurd (false≢true e)
 is-nothing (Dword address) e = absurd (false≢true e)
 is-nothing (Bracket address) e = absurd (false≢true e)
-is-nothing (Branch near minus size) e = absurd (false≢true e)
+is-nothing (Branch word minus size) e = absurd (false≢true e)
 
 module _ (start : ℕ) (x : Item) where
   no-text : isNothing (x .shown) ≡ true → (separator : List ℕ) → partedText separator x ≡ []

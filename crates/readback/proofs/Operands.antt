@@ -7,11 +7,12 @@ use Prim.Native.Nat.{ℕ, suc, _%_, _^_, _<_, _≤_}
 use native.Mathlib.Nat.{zero-add}
 use native.Mathlib.Omega.{arith}
 use lib.IntN.{ℤ, pos, _+ℤ_}
-use Rattle.text.specs.Words.{bytes}
 use Rattle.numerals.specs.Numerals.{numeral}
 use Rattle.operands.specs.declared.Address.{Address}
 use Rattle.operands.specs.declared.Label.{Label}
 use Rattle.operands.specs.declared.Label.the-variants.{None}
+use Rattle.operands.specs.declared.BranchWord.{BranchWord}
+use Rattle.operands.specs.declared.BranchWord.the-variants as word
 use Rattle.operands.specs.declared.Shown.{Shown}
 use Rattle.operands.specs.declared.Shown.the-variants.{Nothing, Name, St, Number, Word, Dword, Bracket, Branch}
 use Rattle.operands.specs.declared.Item.{Item}
@@ -19,13 +20,13 @@ use Rattle.branches.specs.Sums.{modulo}
 use Rattle.names.specs.Labels.{labels, labelWord}
 use Rattle.lines.specs.Fronts.{labelText, segmentText}
 use Rattle.lines.specs.Brackets.{bracketText}
-use Rattle.lines.specs.Items.{absoluteText, branchText, shownText, itemText}
+use Rattle.lines.specs.Items.{absoluteText, wordText, branchText, shownText, itemText}
 use Rattle.bodies.specs.WellFormed.{AddressKept}
 use Rattle.lines.specs.Text.{shows}
 use Rattle.masm.specs.Expressions.{Register, constant}
 use Rattle.masm.specs.Operands.{Operand, branch, address, timesIn, wrapped}
 use Rattle.masm.proofs.Expressions.{number-term, term-sum}
-use Rattle.masm.proofs.Texts.{OperandText, number-operand, register-operand, branch-operand, address-operand}
+use Rattle.masm.proofs.Texts.{OperandText, number-operand, register-operand, WidthText, no-width-word, short-word, near-word, branch-operand, address-operand}
 use Rattle.readback.specs.Meaning.{bySign, widthOf, labelOf, segmentOf, timesOf, addedOf, itemOf}
 use Rattle.readback.proofs.Sound.{SoundItem, isMissing, isNothing}
 use Rattle.readback.proofs.Numbers.{numeral-text, absolute-text}
@@ -57,18 +58,20 @@ module _ (start : ℕ) (l : Label) (s : ℕ) (known : isMissing l ≡ false) (fe
 
 -- ---- Branches
 
-branch-parts : (near minus : Bool) (size : ℕ)
-    → branchText near minus size ≡ cond near (bytes "near ptr ") [] ++ (36 ∷ cond minus 45 43 ∷ numeral size)
-unfolding branchText
-branch-parts false false size = refl
-branch-parts false true size = refl
-branch-parts true false size = refl
-branch-parts true true size = refl
+word-width : (w : BranchWord) → WidthText (widthOf w) (wordText w)
+word-width word.None = no-width-word
+word-width word.Short = short-word
+word-width word.Near = near-word
 
-branch-shown : (start : ℕ) (near minus : Bool) (size : ℕ) → size < 2 ^ 32
-    → OperandText start (branch (widthOf near) (modulo (pos start +ℤ bySign minus size))) (branchText near minus size)
-branch-shown start near minus size h =
-    rw (branch-parts near minus size, ← (wrapped-modulo (pos start +ℤ bySign minus size))) (branch-operand near minus (numeral-text size h))
+branch-parts : (w : BranchWord) (minus : Bool) (size : ℕ) → branchText w minus size ≡ wordText w ++ (36 ∷ cond minus 45 43 ∷ numeral size)
+unfolding branchText
+branch-parts w false size = refl
+branch-parts w true size = refl
+
+branch-shown : (start : ℕ) (w : BranchWord) (minus : Bool) (size : ℕ) → size < 2 ^ 32
+    → OperandText start (branch (widthOf w) (modulo (pos start +ℤ bySign minus size))) (branchText w minus size)
+branch-shown start w minus size h =
+    rw (branch-parts w minus size, ← (wrapped-modulo (pos start +ℤ bySign minus size))) (branch-operand minus (word-width w) (numeral-text size h))
 
 -- ---- Items
 
@@ -105,8 +108,7 @@ module _ (start : ℕ) (l : Label) (s : ℕ) (known : isMissing l ≡ false) whe
       record { operand = _; is-shown = refl; one = refl; text = absolute-operand start l s known (i .segment) value 7 (i .shown) (i .shown) }
   shown-read (Bracket a) i k =
       record { operand = _; is-shown = refl; one = refl; text = bracket-operand start l s known (i .segment) a (i .shown) }
-  shown-read (Branch near minus size) i k =
-      bare-read (Branch near minus size) _ (i .bare refl) refl refl (branch-shown start near minus size (i .shown))
+  shown-read (Branch w minus size) i k = bare-read (Branch w minus size) _ (i .bare refl) refl refl (branch-shown start w minus size (i .shown))
 
 pub item-read : {k : Bool} (start : ℕ) (x : Item) → SoundItem k x → isMissing (x .label) ≡ false → isNothing (x .shown) ≡ false → ReadAs start x
 item-read start x i known k = shown-read start (x .label) (x .segment) known (x .shown) i k

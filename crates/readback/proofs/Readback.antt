@@ -74,7 +74,7 @@ line-sound mode arm i w shape size =
       b = s .b;
       c = s .c;
       d = s .d;
-      labels = plan-labels-there mode i (planOf arm i) (plan-lacking arm i shape ∙ size);
+      labels = plan-labels-there mode arm i (planOf arm i) (plan-lacking arm i shape ∙ size);
       ordered = from-the-left mode arm i (counted-from-left i w) shape;
     }
 
@@ -93,7 +93,7 @@ module _ {asked : Asked} {body : List ℕ} (p : Printed asked body) where
   -- ---- The theorems
 
   -- Of every accepted body, in both modes and from every start, the reader yields exactly what the line shows: prefix words, mnemonic, and
-  -- for each shown operand its label, segment, multiple of each register, displacement, immediate, or branch.
+  -- for each shown operand its label, segment, multiple of each register, displacement, immediate, or branch with its width.
   pub reads-back : (start : ℕ) → read start (recordText asked body) ≡ shows (meaning start (lineAt asked body))
   unfolding recordText
   reads-back start = reads start (lineAt asked body) sound

@@ -30,7 +30,7 @@ SoundShown (Number value) = value < 2 ^ 32
 SoundShown (Word address) = address < 2 ^ 16
 SoundShown (Dword address) = address < 2 ^ 32
 SoundShown (Bracket address) = AddressKept address
-SoundShown (Branch near minus size) = size < 2 ^ 32
+SoundShown (Branch word minus size) = size < 2 ^ 32
 
 -- an address: a label and a segment stand before nothing else
 abbrev pub isAddress : Shown → Bool
@@ -41,7 +41,7 @@ isAddress (Number value) = false
 isAddress (Word address) = true
 isAddress (Dword address) = true
 isAddress (Bracket address) = true
-isAddress (Branch near minus size) = false
+isAddress (Branch word minus size) = false
 
 -- a branch
 abbrev pub isBranchShown : Shown → Bool
@@ -52,7 +52,7 @@ isBranchShown (Number value) = false
 isBranchShown (Word address) = false
 isBranchShown (Dword address) = false
 isBranchShown (Bracket address) = false
-isBranchShown (Branch near minus size) = true
+isBranchShown (Branch word minus size) = true
 
 -- an operand of a line: what is shown, after a known segment; what is no address has neither label nor segment; a branch only where
 -- the record is one

@@ -20,6 +20,7 @@ use Rattle.operands.specs.declared.Shown.the-variants as shown
 use Rattle.bodies.specs.WellFormed.{Kept, WellFormed}
 use Rattle.bodies.proofs.Picks.{both-left, both-right, picked}
 use Rattle.branches.specs.declared.Mode.{Mode}
+use Rattle.names.specs.declared.Arm.{Arm}
 use Rattle.branches.specs.declared.Mode.the-variants.{Crate, Straight}
 use Rattle.branches.specs.Sums.{signed, shortSum, branchSum, branchShown}
 use Rattle.branches.proofs.Wrapping.{Within, signed-within}
@@ -158,7 +159,7 @@ placeSound branches (place.Register reg) = isRegisterByte reg
 placeSound branches place.Branch = branches
 placeSound branches (place.Operand k label segment short) = true
 
-module _ (mode : Mode) (i : Instruction) (w : WellFormed i) where
+module _ (mode : Mode) (arm : Arm) (i : Instruction) (w : WellFormed i) where
   operand-kept : (k : ℕ) → Kept (operandIn i k)
   operand-kept zero = w .a
   operand-kept (suc zero) = w .b
@@ -166,7 +167,7 @@ module _ (mode : Mode) (i : Instruction) (w : WellFormed i) where
   operand-kept (suc (suc (suc zero))) = w .d
   operand-kept (suc (suc (suc (suc k)))) = tt
 
-  pub sound-place : {b : Bool} (p : Place) → placeSound b p ≡ true → SoundItem b (itemAt mode i p)
+  pub sound-place : {b : Bool} (p : Place) → placeSound b p ≡ true → SoundItem b (itemAt mode arm i p)
   unfolding itemAt branchShown
   sound-place place.Nothing e = sound-bare shown.Nothing tt refl
   sound-place (place.Register reg) e = sound-bare (shown.Name reg) (register-named reg e) refl

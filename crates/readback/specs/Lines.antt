@@ -5,7 +5,7 @@ use mathlib.Core.Option.{none, some}
 use Prim.Native.String.{String}
 use Prim.Native.Nat.{ℕ}
 use Rattle.text.specs.Words.{bytes}
-use Rattle.masm.specs.Operands.{Near, Dword, timesIn, Operand, register, immediate, branch, address}
+use Rattle.masm.specs.Operands.{Dword, timesIn, Operand, register, immediate, branch, address}
 use Rattle.masm.specs.Lines.{Reading, shows}
 
 -- a mnemonic and operands, with no prefix words
@@ -24,11 +24,14 @@ readings =
     ("mov eax, dword ptr [eax + 0Ah]", says "mov" (register 0 ∷ fromEax 10 ∷ [])) ∷
     ("push 0FFFFFFFFh", says "push" (immediate 0xFFFFFFFF ∷ [])) ∷
     ("jmp $+7Fh", says "jmp" (branch none 0x107F ∷ [])) ∷
+    ("jmp short $+7Fh", says "jmp" (branch (some 8) 0x107F ∷ [])) ∷
     ("jmp $-80h", says "jmp" (branch none 0xF80 ∷ [])) ∷
-    ("jmp $+80h", says "jmp" (branch none 0x1080 ∷ [])) ∷
-    ("jmp near ptr $+80h", says "jmp" (branch (some Near) 0x1080 ∷ [])) ∷
+    ("jmp short $+80h", says "jmp" (branch (some 8) 0x1080 ∷ [])) ∷
+    ("jmp near ptr $+80h", says "jmp" (branch (some 32) 0x1080 ∷ [])) ∷
     ("jmp $+100h", says "jmp" (branch none 0x1100 ∷ [])) ∷
+    ("jmp near ptr $+100h", says "jmp" (branch (some 32) 0x1100 ∷ [])) ∷
     ("jmp $-7FFFFFFCh", says "jmp" (branch none 0x80001004 ∷ [])) ∷
+    ("jmp near ptr $-7FFFFFFCh", says "jmp" (branch (some 32) 0x80001004 ∷ [])) ∷
     ("aam", says "aam" []) ∷
     ("aam 0Ah", says "aam" (immediate 10 ∷ [])) ∷
     ("fxsave fs:[ecx]", says "fxsave" (address none (some 28) (timesIn ((1, 1) ∷ [])) 0 ∷ [])) ∷ []

@@ -12,6 +12,8 @@ use Rattle.names.specs.Opcodes.{mnemonic}
 use Rattle.operands.specs.declared.Address.{Address}
 use Rattle.operands.specs.declared.Label.{Label}
 use Rattle.operands.specs.declared.Label.the-variants as label
+use Rattle.operands.specs.declared.BranchWord.{BranchWord}
+use Rattle.operands.specs.declared.BranchWord.the-variants as word
 use Rattle.operands.specs.declared.Shown.{Shown}
 use Rattle.operands.specs.declared.Shown.the-variants.{Nothing, Name, St, Number, Word, Dword, Bracket, Branch}
 use Rattle.operands.specs.declared.Item.{Item}
@@ -23,7 +25,7 @@ use Rattle.lines.specs.declared.Name.{Name as Mnemonic}
 use Rattle.lines.specs.declared.Name.the-variants.{Opcode, Feni, Fdisi, Fsetpm}
 use Rattle.masm.specs.Operands as masm
 use Rattle.masm.specs.Expressions.{Register}
-use Rattle.masm.specs.Operands.{Operand, Width, Near, register, immediate, branch, address}
+use Rattle.masm.specs.Operands.{Operand, Width, register, immediate, branch, address}
 use Rattle.masm.specs.Lines.{Line as Read, Prefix, Xacquire, Xrelease, Lock, Rep, Repne}
 
 -- ---- The head
@@ -72,9 +74,11 @@ labelOf label.Fword = some masm.Fword
 labelOf label.Tbyte = some masm.Tbyte
 labelOf label.Missing = none
 
--- `near ptr`, or nothing
-abbrev pub widthOf : (near : Bool) → Option Width
-widthOf near = cond near (some Near) none
+-- how many bits the word before `$` gives the distance
+abbrev pub widthOf : BranchWord → Option Width
+widthOf word.None = none
+widthOf word.Short = some 8
+widthOf word.Near = some 32
 
 -- segments 1 to 6 are es cs ss ds fs gs, the registers from 24 on
 abbrev pub segmentOf : ℕ → Option Register
@@ -98,7 +102,7 @@ operandOf start label segment (Number value) = immediate (value % 2 ^ 32) ∷ []
 operandOf start label segment (Word value) = address (labelOf label) (segmentOf segment) (λ r. 0) (value % 2 ^ 32) ∷ []
 operandOf start label segment (Dword value) = address (labelOf label) (segmentOf segment) (λ r. 0) (value % 2 ^ 32) ∷ []
 operandOf start label segment (Bracket a) = address (labelOf label) (segmentOf segment) (timesOf a) (modulo (addedOf a)) ∷ []
-operandOf start label segment (Branch near minus size) = branch (widthOf near) (modulo (pos start +ℤ bySign minus size)) ∷ []
+operandOf start label segment (Branch word minus size) = branch (widthOf word) (modulo (pos start +ℤ bySign minus size)) ∷ []
 
 -- an operand of a line with its label and segment
 abbrev pub itemOf : (start : ℕ) → Item → List Operand

@@ -1,9 +1,9 @@
--- Where a branch record goes, and what it means that a text branches there.
+-- Where a branch record goes, how wide its distance is, and what it means that a text branches there.
 -- Assumes nothing.
 use mathlib.Core.Bool.{Bool, true, false, cond, _&&_, _||_}
 use mathlib.Core.List.{List, [], _∷_}
-use mathlib.Core.Logic.{_⊎_}
-use mathlib.Core.Option.{Option}
+use mathlib.Core.Logic.{_⊎_, _↔_}
+use mathlib.Core.Option.{Option, none, some}
 use mathlib.Core.Path.{_≡_}
 use Prim.Native.Nat.{ℕ, suc, _+_, _≤_, _<_}
 use lib.Dec.{eqb}
@@ -14,7 +14,6 @@ use Rattle.branches.specs.Sums.{signed, from128to255, targetOf}
 use Rattle.operands.specs.Parts.{immediateKind, immediateOf}
 use Rattle.masm.specs.Operands.{Width, Operand, register, immediate, branch, address}
 use Rattle.masm.specs.Lines.{Line as Read, shows, read}
-use Rattle.readback.specs.Meaning.{widthOf}
 
 -- "Relative branches with kind 3 or 5 as operand 0, and XBEGIN with kind 5": JMP to JG are the opcodes below 22, and XBEGIN is 22
 pub data BranchRecord (i : Instruction) : Type 0 where
@@ -29,11 +28,8 @@ distanceOf i = signed 32 (immediateOf (i .a))
 abbrev pub recordTarget : (start : ℕ) → Instruction → ℕ
 recordTarget start i = targetOf start (i .length) (immediateOf (i .a))
 
--- what a branch record's line has before `$`: "Kind 5 with a sum of 128 to 255 gets `near ptr ` in front", in both modes
-abbrev pub beforeDollar : Instruction → Option Width
-beforeDollar i = widthOf (eqb (immediateKind (i .a)) i32 && from128to255 (signed 32 (immediateOf (i .a) + i .length)))
-
--- MASM's reader takes the text for an instruction with one operand, a branch to the target; `width` is what stands before `$`
+-- MASM's reader takes the text for an instruction with one operand, a branch to the target; `width` is how many bits the word before `$`
+-- gives its distance, if there is one
 pub record BranchesTo (start : ℕ) (text : List ℕ) (width : Option Width) (target : ℕ) : Type 0 where
   pub line : Read
   pub reads : read start text ≡ shows line
@@ -59,6 +55,19 @@ pub record ShowsBranch (start : ℕ) (text : List ℕ) : Type 0 where
 abbrev pub mode0Sum : Instruction → ℤ
 mode0Sum i = signed (cond (eqb (immediateKind (i .a)) i8) 8 32) (immediateOf (i .a) + i .length)
 
+-- the width that mode 0's word gives: "kind 5 with a sum of 128 to 255 gets `near ptr ` in front", and no other branch has a word
+abbrev pub mode0Width : Instruction → Option Width
+mode0Width i = cond (eqb (immediateKind (i .a)) i32 && from128to255 (mode0Sum i)) (some 32) none
+
+-- "CALL and XBEGIN, which have no short form": CALL is 1, and XBEGIN is 22
+abbrev pub noShortForm : Instruction → Bool
+noShortForm i = eqb (i .opcode) 1 || eqb (i .opcode) 22
+
+-- the width that mode 1's word gives: "a kind 5 branch prints `near ptr ` at all sums and a kind 3 one `short `, except that CALL and
+-- XBEGIN .. print neither"
+abbrev pub straightWidth : Instruction → Option Width
+straightWidth i = cond (noShortForm i) none (cond (eqb (immediateKind (i .a)) i8) (some 8) (some 32))
+
 -- from -128 to 127
 abbrev pub FitsByte : ℤ → Type 0
 FitsByte (pos n) = n ≤ 127
@@ -67,3 +76,14 @@ FitsByte (negsuc n) = suc n ≤ 128
 -- the branches that mode 0 prints as they are: the distance is 32 bits wide, or its sum with the length is from -128 to 127
 abbrev pub FitsMode0 : Instruction → Type 0
 FitsMode0 i = (immediateKind (i .a) ≡ i32) ⊎ FitsByte (distanceOf i +ℤ pos (i .length))
+
+-- Mode 1: CALL and XBEGIN alone have no width; of the others it is 8 exactly for kind 3 and 32 exactly for kind 5.
+pub record StraightWidth (i : Instruction) (width : Option Width) : Type 0 where
+  pub bits-8 : (width ≡ some 8) ↔ ((noShortForm i ≡ false) × (immediateKind (i .a) ≡ i8))
+  pub bits-32 : (width ≡ some 32) ↔ ((noShortForm i ≡ false) × (immediateKind (i .a) ≡ i32))
+  pub neither : (width ≡ none) ↔ (noShortForm i ≡ true)
+
+-- Mode 0: it is 32 exactly for kind 5 with a sum of 128 to 255, and there is none else.
+pub record Mode0Width (i : Instruction) (width : Option Width) : Type 0 where
+  pub bits-32 : (width ≡ some 32) ↔ ((immediateKind (i .a) ≡ i32) × (from128to255 (mode0Sum i) ≡ true))
+  pub else-none : (width ≡ some 32) ⊎ (width ≡ none)

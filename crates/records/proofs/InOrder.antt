@@ -23,6 +23,7 @@ plan-in-order arm.Lds i = tt
 plan-in-order arm.Movs i = tt
 plan-in-order arm.Cmps i = tt
 plan-in-order arm.Branch i = cond-by (λ (p : Plan). T (inOrder p)) (isBranch (i .a)) (λ e. tt) (λ e. tt)
+plan-in-order arm.Call i = cond-by (λ (p : Plan). T (inOrder p)) (isBranch (i .a)) (λ e. tt) (λ e. tt)
 plan-in-order arm.Xbegin i = cond-by (λ (p : Plan). T (inOrder p)) (isXbegin (i .a)) (λ e. tt) (λ e. tt)
 plan-in-order arm.Feni i = tt
 plan-in-order arm.Fdisi i = tt

@@ -131,5 +131,8 @@ unrefused asked body e =
     }
 
 -- the plan of an accepted record shows its operands from the left
-pub plan-from-the-left : {asked : Asked} {body : List ℕ} {plan : Plan} (mode : Mode) → Unrefused asked body → plan ≡ planOf (armAt body) (instructionOf body) → fromTheLeft (itemsAt mode (instructionOf body) plan) ≡ true
-plan-from-the-left {body = body} mode k p = rw p (body-from-the-left mode (armAt body) body (k .no-shape))
+pub plan-from-the-left :
+    {asked : Asked} {body : List ℕ} {arm : Arm} {plan : Plan} (mode : Mode) →
+    Unrefused asked body → arm ≡ armAt body → plan ≡ planOf (armAt body) (instructionOf body) →
+    fromTheLeft (itemsAt mode arm (instructionOf body) plan) ≡ true
+plan-from-the-left {body = body} mode k a p = rw (a, p) (body-from-the-left mode (armAt body) body (k .no-shape))

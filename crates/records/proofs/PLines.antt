@@ -63,8 +63,8 @@ p-lines =
     each (λ (c : Compared). map (comes (c .body)) (c .modes)) (λ (c : Compared). map (printed (bytes (c .line))) (c .modes))
     (λ (c : Compared). each (comes (c .body)) (printed (bytes (c .line))) (prints (bytes (c .line)) (c .body)) (c .modes)) lines computed
 
--- A second hold on the table: document 01 marks 13 lines, and with their modes there are 24 pairs of body and mode.
-pub p-lines-rows : length lines ≡ 13
+-- A second hold on the table: documents 01 and 02 have 16 lines, and with their modes there are 24 pairs of body and mode.
+pub p-lines-rows : length lines ≡ 16
 unfolding lines
 p-lines-rows = refl
 

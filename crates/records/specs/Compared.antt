@@ -1,4 +1,5 @@
--- "Lines to compare (P: proved)": those marked P, as one table of bodies and lines.
+-- "Lines to compare (P: proved)": those marked P, as one table of bodies and lines, with the branches of mode 1 as document 02's W-202
+-- has them.
 -- Assumes nothing.
 use mathlib.Core.Path.{_≡_}
 use mathlib.Core.List.{List, [], _∷_, _++_}
@@ -56,12 +57,15 @@ lines =
     inBoth (mov (0 ∷ 0 ∷ 0 ∷ 9 ∷ [])) "mov eax, dword ptr [eax + 9]" ∷
     inBoth (mov (0 ∷ 0 ∷ 0 ∷ 10 ∷ [])) "mov eax, dword ptr [eax + 0Ah]" ∷
     inBoth (body 33 2 4 (0xFF ∷ 0xFF ∷ 0xFF ∷ 0xFF ∷ []) zeros (oneImmediate 3)) "push 0FFFFFFFFh" ∷
-    inBoth (jmp 3 2 (0 ∷ 0 ∷ 0 ∷ 125 ∷ [])) "jmp $+7Fh" ∷
+    inMode 0 (jmp 3 2 (0 ∷ 0 ∷ 0 ∷ 125 ∷ [])) "jmp $+7Fh" ∷
+    inMode 1 (jmp 3 2 (0 ∷ 0 ∷ 0 ∷ 125 ∷ [])) "jmp short $+7Fh" ∷
     inMode 0 (jmp 3 2 (0 ∷ 0 ∷ 0 ∷ 126 ∷ [])) "jmp $-80h" ∷
-    inMode 1 (jmp 3 2 (0 ∷ 0 ∷ 0 ∷ 126 ∷ [])) "jmp $+80h" ∷
+    inMode 1 (jmp 3 2 (0 ∷ 0 ∷ 0 ∷ 126 ∷ [])) "jmp short $+80h" ∷
     inBoth (jmp 5 5 (0 ∷ 0 ∷ 0 ∷ 123 ∷ [])) "jmp near ptr $+80h" ∷
-    inBoth (jmp 5 5 (0 ∷ 0 ∷ 0 ∷ 251 ∷ [])) "jmp $+100h" ∷
-    inBoth (jmp 5 5 (0x7F ∷ 0xFF ∷ 0xFF ∷ 0xFF ∷ [])) "jmp $-7FFFFFFCh" ∷
+    inMode 0 (jmp 5 5 (0 ∷ 0 ∷ 0 ∷ 251 ∷ [])) "jmp $+100h" ∷
+    inMode 1 (jmp 5 5 (0 ∷ 0 ∷ 0 ∷ 251 ∷ [])) "jmp near ptr $+100h" ∷
+    inMode 0 (jmp 5 5 (0x7F ∷ 0xFF ∷ 0xFF ∷ 0xFF ∷ [])) "jmp $-7FFFFFFCh" ∷
+    inMode 1 (jmp 5 5 (0x7F ∷ 0xFF ∷ 0xFF ∷ 0xFF ∷ [])) "jmp near ptr $-7FFFFFFCh" ∷
     inBoth (aam (0 ∷ 0 ∷ 0 ∷ 10 ∷ [])) "aam" ∷
     inBoth (aam (0 ∷ 0 ∷ 1 ∷ 10 ∷ [])) "aam 0Ah" ∷
     inBoth (body 39 3 63 zeros zeros (1 ∷ 11 ∷ 5 ∷ 1 ∷ 0 ∷ 0 ∷ [])) "fxsave fs:[ecx]" ∷ []

@@ -1,47 +1,24 @@
--- `branches::branch_shown` meets its contract: at each return, what was called ensures and what was tested give the definition's case.
+-- `branches::branch_shown` meets its contract: the sum's sign and size are shown, and the word that belongs to the sum.
 -- Assumes nothing.
-use borrow.Author.Tests.{eq-eqb, ne-eqb}
+use mathlib.Core.Path.{ap}
 use Rattle.branches.specs.Sums.{branchSum, branchShown}
+use Rattle.branches.specs.declared.Sum.{Sum}
 use borrow.Author.Needs.{needs}
 use Rattle.branches.proofs.branch_shown.Statement.{statement}
 use Rattle.branches.proofs.branch_shown.Tie as tie
 
-enum-told : tie.Need-enum-told
-enum-told c = search needs
+branch-sum-requires : tie.Need-branch-sum-requires
+branch-sum-requires c κs = search needs
 
-short-sum-requires : tie.Need-short-sum-requires
-short-sum-requires c κs = search needs
-
-enum-told-2 : tie.Need-enum-told-2
-enum-told-2 c = search needs
-
-whole-sum-requires : tie.Need-whole-sum-requires
-whole-sum-requires c κs = search needs
-
-long-sum-requires : tie.Need-long-sum-requires
-long-sum-requires c κs = search needs
+branch-word-requires : tie.Need-branch-word-requires
+branch-word-requires c κs = search needs
 
 returns : tie.Need-returns
-unfolding branchSum branchShown
-returns c = rw ((c .before .enum-told) .given .1, eq-eqb _ _ ((c .before .before .before .if1) .taken), (c .before .before .before .if1) .taken) ((c .short-sum) .ensures)
-
-returns-2 : tie.Need-returns-2
-unfolding branchSum branchShown
-returns-2 c = rw ((c .before .enum-told2) .given .1, eq-eqb _ _ ((c .before .before .before .if1) .taken), (c .before .before .before .if1) .taken) ((c .whole-sum) .ensures)
-
-returns-3 : tie.Need-returns-3
-unfolding branchSum branchShown
-returns-3 c = rw (ne-eqb _ _ ((c .before .if1) .left)) ((c .long-sum) .ensures)
+unfolding branchShown
+returns c =
+    let a = c .before .before .args in
+    let e = c .before .branch-sum .ensures in
+    rw (c .branch-word .ensures (branchSum (a .mode) (a .kind) (a .value) (a .length)) (ap (λ (s : Sum). s .minus) e) (ap (λ (s : Sum). s .size) e), e)
 
 pub branch-shown-spec : {M : Type 1} → statement M
-branch-shown-spec =
-    tie.close
-    (tie.spec
-    enum-told
-    short-sum-requires
-    enum-told-2
-    whole-sum-requires
-    long-sum-requires
-    returns
-    returns-2
-    returns-3)
+branch-shown-spec = tie.close (tie.spec branch-sum-requires branch-word-requires returns)

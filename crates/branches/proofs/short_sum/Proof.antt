@@ -1,9 +1,9 @@
 -- `branches::short_sum` meets its contract: at each return, what was called ensures and what was tested give the definition's case.
 -- Assumes nothing.
-use mathlib.Core.Path.{_≡_, sym, _∙_}
+use mathlib.Core.Path.{sym, _∙_}
 use Prim.Native.Nat.{_+_}
 use native.Mathlib.Omega.{arith}
-use Rattle.branches.proofs.Sums.{shown-low, shown-high}
+use Rattle.branches.proofs.Sums.{parted-low, parted-high}
 use borrow.Author.Needs.{needs}
 use Rattle.branches.proofs.short_sum.Statement.{statement}
 use Rattle.branches.proofs.short_sum.Tie as tie
@@ -32,14 +32,13 @@ backward-requires c κs = search needs
 returns : tie.Need-returns
 returns c =
     let a = c .before .before .before .args in
-    c .forward .ensures
-    ∙ sym (shown-low 8 (a .value + a .length) (c .before .before .wrapping-add-u8 .result) (omega arith) 3 (c .before .if1 .taken))
+    c .forward .ensures ∙ sym (parted-low 8 (a .value + a .length) (c .before .before .wrapping-add-u8 .result) (omega arith) (c .before .if1 .taken))
 
 returns-2 : tie.Need-returns-2
 returns-2 c =
     let a = c .before .before .before .args in
     c .backward .ensures
-    ∙ sym (shown-high 8 (a .value + a .length) (c .before .before .wrapping-add-u8 .result) (omega arith) (c .before .if1 .left) (omega arith) 3 _ (omega arith))
+    ∙ sym (parted-high 8 (a .value + a .length) (c .before .before .wrapping-add-u8 .result) (omega arith) (c .before .if1 .left) (omega arith) _ (omega arith))
 
 pub short-sum-spec : {M : Type 1} → statement M
 short-sum-spec =

@@ -5,7 +5,7 @@ use denote.Ref.{now}
 use Rattle.operands.specs.RegisterBytes.{eax, ecx, edx}
 use Rattle.places.specs.declared.Place.the-variants as place
 use Rattle.names.specs.declared.Arm.{Arm}
-use Rattle.names.specs.declared.Arm.the-variants.{Branch, Xbegin, Monitor, Pvalidate}
+use Rattle.names.specs.declared.Arm.the-variants.{Branch, Call, Xbegin, Monitor, Pvalidate}
 use Rattle.bodies.specs.Decoding.{instructionOf}
 use Rattle.arms.specs.Plans.{named, one, three, planOf}
 use Rattle.names.proofs.ArmGroups.{at-group}
@@ -16,7 +16,7 @@ use Rattle.arms.proofs.plans.own.Tie as tie
 
 returns : tie.Need-returns
 returns c = let i = instructionOf (now ((c .before .before .before .args) .body)) in
-    rw ((c .one) .ensures, own-plan i (one place.Branch) (Branch ∷ Xbegin ∷ []) ((c .before .before .before .args) .arm) (own-branch i) ((c .before .match) .keys1) ((c .before .before .before .pre) .1 .1))
+    rw ((c .one) .ensures, own-plan i (one place.Branch) (Branch ∷ Call ∷ Xbegin ∷ []) ((c .before .before .before .args) .arm) (own-branch i) ((c .before .match) .keys1) ((c .before .before .before .pre) .1 .1))
 
 returns-2 : tie.Need-returns-2
 unfolding planOf

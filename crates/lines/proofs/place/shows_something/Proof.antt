@@ -10,16 +10,16 @@ use Rattle.lines.proofs.place.shows_something.Statement.{statement}
 use Rattle.lines.proofs.place.shows_something.Tie as tie
 
 returns : tie.Need-returns
-returns c = λ mode. sym (shows-nothing mode (instructionOf (now ((c .before .before .before .args) .body))) ((c .enum-told) .given .1))
+returns c = λ mode arm. sym (shows-nothing mode arm (instructionOf (now ((c .before .before .before .args) .body))) ((c .enum-told) .given .1))
 
 returns-2 : tie.Need-returns-2
-returns-2 c = λ mode. sym (shows-register mode (instructionOf (now ((c .before .before .before .args) .body))) ((c .enum-told2) .given .1))
+returns-2 c = λ mode arm. sym (shows-register mode arm (instructionOf (now ((c .before .before .before .args) .body))) ((c .enum-told2) .given .1))
 
 returns-3 : tie.Need-returns-3
-returns-3 c = λ mode. sym (shows-branch mode (instructionOf (now ((c .before .before .before .args) .body))) ((c .enum-told3) .given .1))
+returns-3 c = λ mode arm. sym (shows-branch mode arm (instructionOf (now ((c .before .before .before .args) .body))) ((c .enum-told3) .given .1))
 
 returns-4 : tie.Need-returns-4
-returns-4 c = λ mode. ap (ltb ((c .before .before .place) .given .0 .0)) ((c .count) .ensures) ∙ sym (shows-stored mode (now ((c .before .before .before .before .before .args) .body)) ((c .before .before .before .before .before .pre) .1) ((c .before .before .place) .given .1))
+returns-4 c = λ mode arm. ap (ltb ((c .before .before .place) .given .0 .0)) ((c .count) .ensures) ∙ sym (shows-stored mode arm (now ((c .before .before .before .before .before .args) .body)) ((c .before .before .before .before .before .pre) .1) ((c .before .before .place) .given .1))
 
 pub shows-something-spec : {M : Type 1} → statement M
 shows-something-spec =

@@ -47,5 +47,6 @@ arm-of-spec =
     (λ c. arm-found _ (c .before .before .before .pre) _ 34 (c .match .keys34))
     (λ c. arm-found _ (c .before .before .before .pre) _ 35 (c .match .keys35))
     (λ c. arm-found _ (c .before .before .before .pre) _ 36 (c .match .keys36))
+    (λ c. arm-found _ (c .before .before .before .pre) _ 37 (c .match .keys37))
     (λ c. sym (at-else _ (c .match .rest)) ∙ arm-here _ (c .before .before .before .pre) _)
     (λ c. sym (arm-past _ (c .if1 .left))))

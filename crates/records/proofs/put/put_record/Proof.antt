@@ -38,7 +38,7 @@ put-line-requires c κs = let a = (c .before .before .before .before .before .be
     let k = judged-accepted (a .asked) b (said ((c .before .before .before .before .before .judge) .ensures) ((c .before .before .before .arm) .given .1)) in
     let t = accepted-text (a .asked) b (k .0) (k .1) (k .2) ((c .mode-of) .ensures) (a .alone) in
     let h = unrefused (a .asked) b (k .0) in
-    ((c .before .before .before .before .before .before .before .before .pre) .0, ((c .before .before .before .before .before .before .before .before .pre) .1 .0, ((c .before .before .before .before .before .before .before .before .pre) .1 .1 .0, (h .held, (h .few, (plan-from-the-left _ h (k .2), first (when (not (a .alone)) newline) (room-as t ((c .before .before .before .before .before .before .before .before .pre) .1 .1 .1 .1))))))))
+    ((c .before .before .before .before .before .before .before .before .pre) .0, ((c .before .before .before .before .before .before .before .before .pre) .1 .0, ((c .before .before .before .before .before .before .before .before .pre) .1 .1 .0, (h .held, (h .few, (plan-from-the-left _ h (k .1) (k .2), first (when (not (a .alone)) newline) (room-as t ((c .before .before .before .before .before .before .before .before .pre) .1 .1 .1 .1))))))))
 
 slice-aggregate-put-when : tie.Need-slice-aggregate-put-when
 slice-aggregate-put-when c = search needs
