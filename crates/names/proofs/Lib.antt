@@ -1,4 +1,5 @@
 pub mod Rules
+pub mod Stems
 pub mod Letters
 pub mod ArmNumbers
 pub mod ArmGroups

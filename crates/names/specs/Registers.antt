@@ -2,7 +2,7 @@
 -- Assumes nothing.
 use mathlib.Core.List.{List, [], _∷_, _++_}
 use Prim.Native.Nat.{ℕ}
-use lib.ListN.{getD}
+use lib.ListN.{getD, take}
 use Rattle.text.specs.Words.{bytes, Table}
 
 -- bank 3
@@ -26,9 +26,13 @@ registers =
 unfoldable pub registerName : ℕ → List ℕ
 registerName reg = getD registers reg []
 
--- the table as the code holds and lends it
+-- the names that the code keeps as words of a table: those of the banks 0 to 3
+abbrev pub tabled : List (List ℕ)
+tabled = take 32 registers
+
+-- that table as the code holds and lends it
 abbrev pub RegisterTable : List ℕ → List ℕ → Type 0
-RegisterTable letters starts = Table registers letters starts
+RegisterTable letters starts = Table tabled letters starts
 
 -- "0 for none or 1 to 6 for es cs ss ds fs gs"
 unfoldable pub segments : List (List ℕ)

@@ -1,5 +1,6 @@
-// The words of a line: the opcodes' names, registers, segments and labels, each a constant table of one text with offsets. All but
-// the segments are made once, above the loop over the records, and lent from there: a constant is stored to the stack at each use.
+// The words of a line: the opcodes' names, registers, segments and labels, each a constant table of one text with offsets; register
+// names that differ in a digit alone are built. All tables but the segments' are made once, above the loop over the records, and lent
+// from there: a constant is stored to the stack at each use.
 pub mod labels;
 pub mod opcodes;
 pub mod registers;

@@ -1,16 +1,19 @@
-// The register names, by register byte. The tables are lent.
+// The register names, by register byte. Those of the banks 0 to 3 are words of a table, which is lent. Those of a bank from 4 up differ
+// in a digit alone and are built: the stem of the bank, the number and, for st, what closes.
 ghost use mathlib.Core.Path.{_≡_};
-ghost use Rattle.text.specs.Code.{Room, Put};
-ghost use Rattle.text.specs.Words.{join, starts as startsOf};
-ghost use Rattle.names.specs.Registers.{registers, registerName, RegisterTable};
+ghost use mathlib.Core.List.{[], _∷_, _++_};
+ghost use Prim.Native.Nat.{_<_};
+ghost use Rattle.text.specs.Code.{Room, Put, Stands, wordAt};
+ghost use Rattle.text.specs.Words.{bytes, join, starts as startsOf};
+ghost use Rattle.names.specs.Registers.{tabled, registerName, RegisterTable};
+ghost use Rattle.names.specs.Code.{stem as stemOf, digit};
 use text::words;
 
-pub type Letters = [u8; 196];
+pub type Letters = [u8; 68];
 
-pub type Starts = [u16; 65];
+pub type Starts = [u16; 33];
 
-const LETTERS: Letters =
-    *b"eaxecxedxebxespebpesiediaxcxdxbxspbpsidialcldlblahchdhbhescsssdsfsgsst(0)st(1)st(2)st(3)st(4)st(5)st(6)st(7)mm0mm1mm2mm3mm4mm5mm6mm7xmm0xmm1xmm2xmm3xmm4xmm5xmm6xmm7ymm0ymm1ymm2ymm3ymm4ymm5ymm6ymm7";
+const LETTERS: Letters = *b"eaxecxedxebxespebpesiediaxcxdxbxspbpsidialcldlblahchdhbhescsssdsfsgs";
 
 const STARTS: Starts = [
     0,
@@ -46,61 +49,79 @@ const STARTS: Starts = [
     68,
     68,
     68,
-    73,
-    78,
-    83,
-    88,
-    93,
-    98,
-    103,
-    108,
-    111,
-    114,
-    117,
-    120,
-    123,
-    126,
-    129,
-    132,
-    136,
-    140,
-    144,
-    148,
-    152,
-    156,
-    160,
-    164,
-    168,
-    172,
-    176,
-    180,
-    184,
-    188,
-    192,
-    196,
 ];
 
 pub fn letters() -> Letters
-    ensures { λ r. ⌜ r ≡ join registers ⌝ }
+    ensures { λ r. ⌜ r ≡ join tabled ⌝ }
 {
     LETTERS
 }
 
 pub fn starts() -> Starts
-    ensures { λ r. ⌜ r ≡ startsOf 0 registers ⌝ }
+    ensures { λ r. ⌜ r ≡ startsOf 0 tabled ⌝ }
 {
     STARTS
 }
 
-// The name of a register. A byte that is no register has none.
+// A word of the table: one of two or three letters right here, by two copies of two letters that may overlap, which saves a call; any
+// other by `put_word`.
+fn put_short(buf: &mut [u8], at: usize, letters: &[u8], starts: &[u16], k: usize) -> usize
+    requires { ⌜ Stands (now letters) (now starts) k ⌝ }
+    requires { ⌜ Room (now buf) at (wordAt (now letters) (now starts) k) ⌝ }
+    ensures { λ r. ⌜ Put (now (buf .entry)) at (wordAt (now (letters .entry)) (now (starts .entry)) k) r (now (buf .exit)) ⌝ }
+{
+    let from = starts[k] as usize;
+    let to = starts[k + 1] as usize;
+    let n = to - from;
+    if 2 <= n && n < 4 {
+        words::copy_2(buf, at, letters, from);
+        words::copy_2(buf, at + n - 2, letters, to - 2);
+        return at + n;
+    }
+    words::put_word(buf, at, letters, starts, k)
+}
+
+// A stem and the number of the register.
+fn put_numbered(buf: &mut [u8], at: usize, stem: &[u8], number: u8) -> usize
+    requires { ⌜ number < 8 ⌝ }
+    requires { ⌜ Room (now buf) at (now stem ++ (digit number ∷ [])) ⌝ }
+    ensures { λ r. ⌜ Put (now (buf .entry)) at (now (stem .entry) ++ (digit number ∷ [])) r (now (buf .exit)) ⌝ }
+{
+    let next = text::put_bytes(buf, at, stem);
+    text::put_byte(buf, next, 48 + number)
+}
+
+// What stands before mm in xmm and ymm. The two share all else, so that the processor need not guess which of them comes next.
+fn letter(bank: u8) -> u8
+    requires { ⌜ 5 < bank ⌝ }
+    requires { ⌜ bank < 8 ⌝ }
+    ensures { λ r. ⌜ r ∷ bytes "mm" ≡ stemOf bank ⌝ }
+{
+    if bank == 6 { b'x' } else { b'y' }
+}
+
+// The name of a register. A byte that is no register has none. The stems are words in an arm for each bank, and no array: that would be
+// stored to the stack for each register. The compiler keeps this one function, which four places call.
 pub fn put_register(buf: &mut [u8], at: usize, letters: &Letters, starts: &Starts, reg: u8) -> usize
     requires { ⌜ RegisterTable (now letters) (now starts) ⌝ }
     requires { ⌜ Room (now buf) at (registerName reg) ⌝ }
     ensures { λ r. ⌜ Put (now (buf .entry)) at (registerName reg) r (now (buf .exit)) ⌝ }
 {
-    let k = reg as usize;
-    if 64 <= k {
-        return at;
+    let bank = reg / 8;
+    if bank < 4 {
+        return put_short(buf, at, letters, starts, reg as usize);
     }
-    words::put_word(buf, at, letters, starts, k)
+    let number = reg % 8;
+    match bank {
+        4 => {
+            let next = put_numbered(buf, at, b"st(", number);
+            text::put_bytes(buf, next, b")")
+        }
+        5 => put_numbered(buf, at, b"mm", number),
+        6 | 7 => {
+            let next = text::put_byte(buf, at, letter(bank));
+            put_numbered(buf, next, b"mm", number)
+        }
+        _ => at,
+    }
 }

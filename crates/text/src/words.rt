@@ -8,7 +8,7 @@ ghost use Rattle.text.specs.Code.{part, Stands, wordAt};
 use crate::put_bytes;
 
 // Two, four or eight letters from an offset on.
-fn copy_2(buf: &mut [u8], at: usize, letters: &[u8], from: usize)
+pub fn copy_2(buf: &mut [u8], at: usize, letters: &[u8], from: usize)
     requires { ⌜ from + 2 ≤ length (now letters) ⌝ }
     requires { ⌜ at + 2 ≤ length (now buf) ⌝ }
     ensures { λ r. ⌜ now (buf .exit) ≡ write (now (buf .entry)) at (part (now (letters .entry)) from (from + 2)) ⌝ }
