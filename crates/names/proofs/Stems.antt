@@ -1,14 +1,13 @@
 -- The names that the code builds from stem and number are the registers' names.
 -- Assumes nothing.
 use mathlib.Core.Path.{_≡_, refl, sym, ap, _∙_}
-use mathlib.Core.Bool.{Bool, true, false, not}
-use mathlib.Core.List.{List, [], _∷_, _++_, map}
+use mathlib.Core.List.{List, [], _∷_, _++_, map, head-eq-of-cons-eq, tail-eq-of-cons-eq}
 use Prim.Native.Nat.{ℕ, zero, suc, _+_, _-_, _*_, _/_, _%_, _≤_, _<_}
 use native.Mathlib.Nat.{not-suc-le-zero, mod-lt, div-add-mod'}
 use native.Mathlib.Decide.{ℕ-discrete}
 use native.Mathlib.Omega.{arith}
-use lib.Dec.{T, eqb, eqb→eq, lit<}
-use lib.Ieee.Bits.{is-false}
+use borrow.Author.Tests.{ne-eqb}
+use lib.Dec.{lit<}
 use lib.ListN.{length, getD}
 use lib.Seq.{getD-take}
 use Rattle.text.specs.Words.{bytes}
@@ -20,20 +19,11 @@ abbrev down : ℕ → List ℕ
 down zero = []
 down (suc n) = n ∷ down n
 
--- the first of a list, and what follows it
-abbrev first : {A : Type 0} → A → List A → A
-first d [] = d
-first d (x ∷ xs) = x
-
-abbrev rest : {A : Type 0} → List A → List A
-rest [] = []
-rest (x ∷ xs) = xs
-
 -- two functions that agree on all numbers below n, by one list, agree on each of them
 agree-below : {A : Type 0} (f g : ℕ → A) (n : ℕ) → map f (down n) ≡ map g (down n) → (k : ℕ) → k < n → f k ≡ g k
 agree-below f g zero e k h = absurd (not-suc-le-zero h)
 agree-below f g (suc n) e k h =
-    elim (ℕ-discrete k n) [ yes q ↦ rw q (ap (first (f n)) e) | no q ↦ agree-below f g n (ap rest e) k (omega arith) ]
+    elim (ℕ-discrete k n) [ yes q ↦ rw q (head-eq-of-cons-eq e) | no q ↦ agree-below f g n (tail-eq-of-cons-eq e) k (omega arith) ]
 
 -- the names of a bank, and what is built for it
 abbrev named : ℕ → List (List ℕ)
@@ -55,14 +45,6 @@ register-built bank number low high h =
     (agree-below (λ (n : ℕ). registerName (8 * (4 + (bank - 4)) + n)) (built (4 + (bank - 4))) 8
     (agree-below (λ (k : ℕ). named (4 + k)) (λ (k : ℕ). builtAll (4 + k)) (length stems - 4) stems-keep (bank - 4) (omega arith)) number h)
 
--- a number above 5 is not 4
-not-four : (bank : ℕ) → 5 < bank → eqb bank 4 ≡ false
-not-four bank h = is-false (eqb bank 4) (unequal (eqb bank 4) (eqb→eq bank 4))
-  where
-    unequal : (b : Bool) → (T b → bank ≡ 4) → T (not b)
-    unequal true e = omega (arith, h, e tt)
-    unequal false e = tt
-
 -- the same of a register byte, by its bank and its number
 module _ (reg : ℕ) where
   pub number-below : reg % 8 < 8
@@ -79,14 +61,14 @@ module _ (reg : ℕ) where
   pub byte-lettered : {letter : ℕ} → 5 < reg / 8 → reg / 8 < length stems → letter ∷ bytes "mm" ≡ stem (reg / 8) → registerName reg ≡ (letter ∷ []) ++ (bytes "mm" ++ (digit (reg % 8) ∷ []))
   unfolding built
   byte-lettered low high e =
-      byte-built refl (omega arith) high ∙ rw (← e, not-four (reg / 8) low)
+      byte-built refl (omega arith) high ∙ rw (← e, ne-eqb (reg / 8) 4 (λ q. omega (arith, low, q)))
 
-  -- past the last bank there is no name
+  -- past the last bank there is no register
   pub byte-past : 8 ≤ reg / 8 → length registers ≤ reg
   unfolding registers
   byte-past h = omega (arith, div-add-mod' reg 8)
 
-  -- below the fourth, the name is a word of the table
+  -- in the banks 0 to 3 the name is a word of the table
   byte-below : reg / 8 < 4 → reg < 32
   byte-below h = omega (arith, div-add-mod' reg 8, number-below)
 
