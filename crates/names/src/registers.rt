@@ -100,7 +100,7 @@ fn letter(bank: u8) -> u8
     if bank == 6 { b'x' } else { b'y' }
 }
 
-// The name of a register. A byte that is no register has none. The stems are words in an arm for each bank, and no array: that would be
+// The name of a register. A byte that is no register has none. The stems are words in the arms, by bank, and no array: that would be
 // stored to the stack for each register. The compiler keeps this one function, which four places call.
 pub fn put_register(buf: &mut [u8], at: usize, letters: &Letters, starts: &Starts, reg: u8) -> usize
     requires { ⌜ RegisterTable (now letters) (now starts) ⌝ }
