@@ -1,7 +1,7 @@
 /*
  * Drives the archive through its C boundary: every mode number that matters, every answer, buffers of
  * exactly the right length, one byte less and none at all, with canary bytes all around, and all the
- * lines that document 01 gives to compare.
+ * lines that document 01 gives to compare; and the vector records of document 02.
  *
  *     host_test [LISTING CRATE STRAIGHT]
  *
@@ -17,9 +17,10 @@
 #include "masm_listing.h"
 
 enum {
-	CANARY = 64,    /* watched bytes on either side of a lent buffer */
-	AMPLE = 512,    /* more than any line */
-	BODY_MAX = 1289 /* 14 + 5 * 255, the longest body whose length can be right */
+	CANARY = 64,       /* watched bytes on either side of a lent buffer */
+	AMPLE = 512,       /* more than any line */
+	PLAIN_MAX = 1289,  /* 14 + 5 * 255, the longest body of a record that is not extended */
+	BODY_MAX = 1546    /* 14 + 6 * 255 + 2, the longest whose length can be right */
 };
 
 static unsigned long checks, failures;
@@ -99,12 +100,37 @@ static struct body with(struct body b, unsigned kind, unsigned segment, unsigned
 	return b;
 }
 
-/* opcode numbers, register bytes and segments of document 01, as far as they are used here */
+/* An operand with a mask: a byte more. */
+static struct body masked(struct body b, unsigned kind, unsigned segment, unsigned first, unsigned second, unsigned scale,
+                          unsigned mask)
+{
+	b = with(b, kind, segment, first, second, scale);
+	b.bytes[b.length++] = (uint8_t)mask;
+	return b;
+}
+
+/* The two bytes that end an extended record. */
+static struct body ends(struct body b, unsigned bits, unsigned tail)
+{
+	b.bytes[b.length++] = (uint8_t)bits;
+	b.bytes[b.length++] = (uint8_t)tail;
+	return b;
+}
+
+static struct body flagged(struct body b, unsigned flags)
+{
+	b.bytes[2] = (uint8_t)flags;
+	return b;
+}
+
+/* opcode numbers, register bytes and segments of documents 01 and 02, as far as they are used here */
 enum {
-	JMP = 0, CALL = 1, LOOP = 3, XBEGIN = 22, MOV = 23, PUSH = 33, FXSAVE = 39, MOVS = 60, LSL = 65, SGDT = 75, LSS = 79, LODS = 89,
-	AAM = 103, FADD = 112, FLD = 143, FST = 149, OPCODES = 154
+	JMP = 0, CALL = 1, LOOP = 3, XBEGIN = 22, MOV = 23, PUSH = 33, FXSAVE = 39, MOVS = 60, LSL = 65, SGDT = 75, LSS = 79, NOP = 80,
+	LODS = 89, LEA = 101, AAM = 103, FADD = 112, FLD = 143, FST = 149, VPSCATTERDD = 154, VPSCATTERQQ = 157, VCVTPD2PS = 158,
+	VCVTNEPS2BF16 = 168, VADDPD = 175, OPCODES = 176
 };
-enum { EAX = 0, ECX = 1, ESI = 6, EDI = 7, DX = 10, ST0 = 32 };
+enum { EAX = 0, ECX = 1, EBX = 3, ESI = 6, EDI = 7, DX = 10, ST0 = 32, XMM7 = 55, YMM0 = 56, ZMM0 = 64, K0 = 72, K1 = 73, K7 = 79 };
+enum { XACQUIRE = 1, XRELEASE = 2, LOCK = 4, REPNZ = 16, BROADCAST = 64 };
 enum { NONE = 0, ES = 1, DS = 4, FS = 5 };
 
 /* ---- one call, with everything around it watched */
@@ -322,40 +348,60 @@ static void lines_to_compare(void)
 	refused(jump("instruction length 16", 3, 16, 0), MASM_BAD_FIELD);
 }
 
-/* ---- bodies of every length from 0 to 40, and of 1289, with every count */
+/* ---- bodies of every length from 0 to 40, and of 1289, with every count; the same with masks, and of 1546 */
+
+/* A body of this length and count: of registers, five bytes each, or of memory with masks, six bytes each and two more. */
+static void body_length(int masks, unsigned length, unsigned count)
+{
+	static const char *const text[2][5] = {
+	    {"mov", "mov eax", "mov eax, ecx", "mov eax, ecx, edx", "mov eax, ecx, edx, ebx"},
+	    {"mov", "mov dword ptr [eax]{k1}", "mov dword ptr [eax]{k1}, dword ptr [ecx]{k1}",
+	     "mov dword ptr [eax]{k1}, dword ptr [ecx]{k1}, dword ptr [edx]{k1}",
+	     "mov dword ptr [eax]{k1}, dword ptr [ecx]{k1}, dword ptr [edx]{k1}, dword ptr [ebx]{k1}"}};
+	unsigned size = masks ? 6 : 5, right = 14 + size * count, k;
+	char about[64];
+	struct body b;
+
+	snprintf(about, sizeof about, "a body of %u bytes, count %u%s", length, count, masks ? ", with masks" : "");
+	b = record(about, MOV, 2, 4, 0, 0);
+	for (k = 0; k < 255; k++) {
+		b.bytes[14 + size * k] = masks ? 17 : 1;
+		b.bytes[14 + size * k + 2] = (uint8_t)(k % 4);
+		if (masks)
+			b.bytes[14 + size * k + 5] = K1;
+	}
+	if (masks && count > 0) {
+		b.bytes[right++] = 0;
+		b.bytes[right++] = 0;
+	}
+	b.bytes[13] = (uint8_t)count;
+	b.length = length;
+	if (length != right)
+		refused(b, MASM_BAD_LENGTH);
+	else if (count > 4)
+		refused(b, MASM_BAD_FIELD);
+	else
+		prints(b, text[masks][count]);
+}
 
 static void body_lengths(void)
 {
-	static const char *const text[5] = {"mov", "mov eax", "mov eax, ecx", "mov eax, ecx, edx", "mov eax, ecx, edx, ebx"};
 	struct body b;
 	char about[64];
-	unsigned length, count, k;
-	uint32_t answer;
+	unsigned which, length, count;
 
-	for (length = 0; length <= 40 || length == BODY_MAX; length = length == 40 ? BODY_MAX : length + 1) {
+	for (which = 0; which <= 42; which++) {
+		length = which <= 40 ? which : which == 41 ? PLAIN_MAX : BODY_MAX;
 		for (count = 0; count < 256; count++) {
 			if (length < 14 && count > 0)
 				break; /* the count is not stored */
-			b = record(about, MOV, 2, 4, 0, 0);
-			for (k = 0; 14 + 5 * k + 5 <= BODY_MAX; k++) {
-				b.bytes[14 + 5 * k] = 1;
-				b.bytes[14 + 5 * k + 2] = (uint8_t)(k % 4);
-			}
-			b.bytes[13] = (uint8_t)count;
-			b.length = length;
-			snprintf(about, sizeof about, "a body of %u bytes, count %u", length, count);
-			if (length < 14 || length != 14 + 5 * count)
-				answer = MASM_BAD_LENGTH;
-			else
-				answer = count <= 4 ? MASM_PRINTED : MASM_BAD_FIELD;
-			if (answer == MASM_PRINTED)
-				prints(b, text[count]);
-			else
-				refused(b, answer);
+			body_length(0, length, count);
+			body_length(1, length, count);
 		}
 		/* and all bytes 0, whose instruction length is outside the rules */
-		memset(b.bytes, 0, sizeof b.bytes);
 		snprintf(about, sizeof about, "%u bytes 0", length);
+		b = record(about, 0, 0, 0, 0, 0);
+		b.length = length;
 		refused(b, length == 14 ? MASM_BAD_FIELD : MASM_BAD_LENGTH);
 	}
 }
@@ -366,23 +412,22 @@ static void refusals(void)
 {
 	struct body b;
 
-	b = record("the longest line", MOVS, 15, 16, 0, UINT32_C(0x80000000));
-	b.bytes[2] = 0x17; /* xacquire, xrelease, lock, repnz */
+	b = flagged(record("the longest plain line", MOVS, 15, 16, 0, UINT32_C(0x80000000)), XACQUIRE | XRELEASE | LOCK | REPNZ);
 	b = with(with(b, 16, FS, EAX, ECX, 8), 16, FS, EAX, ECX, 8);
 	b = with(with(b, 16, FS, EAX, ECX, 8), 16, FS, EAX, ECX, 8);
 	prints(b, "xacquire xrelease lock repne movs xmmword ptr fs:[eax + ecx * 8 - 80000000h], "
 	          "xmmword ptr fs:[eax + ecx * 8 - 80000000h], xmmword ptr fs:[eax + ecx * 8 - 80000000h], "
 	          "xmmword ptr fs:[eax + ecx * 8 - 80000000h]");
 
-	refused(record("opcode 154", OPCODES, 2, 0, 0, 0), MASM_BAD_FIELD);
-	b = record("flag 6", MOV, 2, 0, 0, 0);
-	b.bytes[2] = 0x40;
-	refused(b, MASM_BAD_FIELD);
+	refused(record("opcode 176", OPCODES, 2, 0, 0, 0), MASM_BAD_FIELD);
+	refused(flagged(record("flag 6, not extended", MOV, 2, 0, 0, 0), 0x40), MASM_BAD_FIELD);
+	refused(flagged(record("flag 7", MOV, 2, 0, 0, 0), 0x80), MASM_BAD_FIELD);
 	refused(with(record("kind 0", MOV, 2, 0, 0, 0), 0, 0, 0, 0, 0), MASM_BAD_FIELD);
-	refused(with(record("kind 17", MOV, 2, 0, 0, 0), 17, 0, 0, 0, 0), MASM_BAD_FIELD);
+	refused(with(record("kind 23", MOV, 2, 0, 0, 0), 23, 0, 0, 0, 0), MASM_BAD_FIELD);
 	refused(with(record("register byte 30", MOV, 2, 0, 0, 0), 1, 0, 30, 0, 0), MASM_BAD_FIELD);
 	refused(with(record("register byte 31", MOV, 2, 0, 0, 0), 1, 0, 31, 0, 0), MASM_BAD_FIELD);
-	refused(with(record("register byte 64", MOV, 2, 0, 0, 0), 2, 0, 64, 0, 0), MASM_BAD_FIELD);
+	refused(with(record("register byte 64, not extended", MOV, 2, 0, 0, 0), 2, 0, ZMM0, 0, 0), MASM_BAD_FIELD);
+	refused(with(record("register byte 72, not extended", MOV, 2, 0, 0, 0), 1, 0, K0, 0, 0), MASM_BAD_FIELD);
 	refused(with(record("a base of 8 bits", MOV, 2, 4, 0, 0), 11, 0, 16, 0, 0), MASM_BAD_FIELD);
 	refused(with(record("scale 3", MOV, 2, 4, 0, 0), 13, 0, EAX, 0, 3), MASM_BAD_FIELD);
 	refused(with(record("segment 7", MOV, 2, 4, 0, 0), 11, 7, EAX, 0, 0), MASM_BAD_FIELD);
@@ -398,13 +443,125 @@ static void refusals(void)
 	       "movs byte ptr ds:[edi], byte ptr [esi]");
 	prints(with(record("xbegin with 8 bits", XBEGIN, 6, 0, 5, 0), 3, NONE, 0, 0, 0), "xbegin 5");
 
-	/* the lowest number that applies; every one of these is also tried in mode 2 (1) and in no room (6) */
+	/* the first that applies; every one of these is also tried in mode 2 (1) and in no room (6) */
 	b = record("a length and a field", OPCODES, 0, 0, 0, 0);
 	b.length = 15;
 	refused(b, MASM_BAD_LENGTH);
 	refused(with(record("a field and a shape", SGDT, 0, 3, 0, 0), 1, NONE, EAX, 0, 0), MASM_BAD_FIELD);
 	refused(with(with(record("a shape and a size", LSS, 3, 3, 0, 0), 1, NONE, EAX, 0, 0), 1, NONE, EAX, 0, 0), MASM_BAD_SHAPE);
 	refused(with(record("a shape and a size in the general path", LSL, 3, 3, 0, 0), 11, NONE, EAX, 0, 0), MASM_BAD_SHAPE);
+}
+
+/* ---- document 02, W-204: vector records */
+
+/* VADDPD with this register and a memory operand that is broadcast. */
+static struct body vaddpd(const char *about, unsigned before, unsigned size)
+{
+	return ends(with(with(flagged(record(about, VADDPD, 6, size, 0, 0), BROADCAST), 1, NONE, before, 0, 0), 11, NONE, EAX, 0, 0), 0, 0);
+}
+
+/* VCVTNEPS2BF16 with all that a line can have: with masks the longest line, without them the most text for its bytes. */
+static struct body decorated(const char *about, int masks)
+{
+	struct body b = record(about, VCVTNEPS2BF16, 15, 16, 0, UINT32_C(0x80000000));
+	int k;
+
+	b = flagged(b, XACQUIRE | XRELEASE | LOCK | BROADCAST);
+	for (k = 0; k < 4; k++)
+		b = masks ? masked(b, 22, FS, EAX, ECX, 8, K1) : with(b, 16, FS, EAX, ECX, 8);
+	return ends(b, 2, 2);
+}
+
+static void vector_records(void)
+{
+	static const char *const rounding[4] = {"rn", "rd", "ru", "rz"};
+	static const unsigned few[4] = {2, 4, 8, 4};
+	static const char longest[] =
+	    "xacquire xrelease lock vcvtneps2bf16 xmmword ptr fs:[eax + ecx * 8 - 80000000h]{k1}, "
+	    "xmmword ptr fs:[eax + ecx * 8 - 80000000h]{k1}{1to16}, xmmword ptr fs:[eax + ecx * 8 - 80000000h]{k1}{1to16}, "
+	    "xmmword ptr fs:[eax + ecx * 8 - 80000000h]{k1}{1to16} {ru-sae}";
+	struct body b;
+	char text[MASM_LINE_MAX];
+	unsigned bits;
+
+	/* masks */
+	b = with(record("a mask", MOV, 7, 4, 0, 4), 1, NONE, EAX, 0, 0);
+	prints(ends(masked(b, 18, NONE, EAX, 0, 0, K1), 0, 0), "mov eax, dword ptr [eax + 4]{k1}");
+	b = record("a mask after all parts of a bracket", MOV, 9, 4, 0, UINT32_C(0) - 16);
+	prints(ends(with(masked(b, 22, FS, EBX, ESI, 4, K7), 2, NONE, EAX, 0, 0), 0, 0), "mov dword ptr fs:[ebx + esi * 4 - 10h]{k7}, eax");
+	b = with(record("a mask without a label", LEA, 4, 0, 0, 0), 1, NONE, EAX, 0, 0);
+	prints(ends(masked(b, 17, FS, ECX, 0, 0, K1), 1, 2), "lea eax, [ecx]{k1}");
+	prints(ends(with(with(record("mask registers", VCVTPD2PS, 6, 0, 0, 0), 1, NONE, K0, 0, 0), 2, NONE, ZMM0, 0, 0), 0, 0),
+	       "vcvtpd2ps k0, zmm0");
+	refused(ends(masked(record("k0 as a mask", MOV, 6, 4, 0, 0), 17, NONE, EAX, 0, 0, K0), 0, 0), MASM_BAD_FIELD);
+	refused(ends(masked(record("80 as a mask", MOV, 6, 4, 0, 0), 17, NONE, EAX, 0, 0, 80), 0, 0), MASM_BAD_FIELD);
+
+	/* VPSCATTER: operand 1 is the mask, k0 too */
+	b = with(record("vpscatterdd", VPSCATTERDD, 7, 4, 0, 0), 15, NONE, EAX, ZMM0 + 1, 4);
+	prints(ends(with(with(b, 2, NONE, K1, 0, 0), 1, NONE, ZMM0 + 2, 0, 0), 0, 0), "vpscatterdd dword ptr [eax + zmm1 * 4]{k1}, zmm2");
+	b = with(record("vpscatterqq, k0", VPSCATTERQQ, 7, 0, 0, UINT32_C(0) - 1), 14, FS, XMM7, 0, 1);
+	prints(ends(with(with(b, 1, NONE, K0, 0, 0), 1, NONE, YMM0, 0, 0), 3, 2), "vpscatterqq qword ptr [xmm7 - 1]{k0}, ymm0");
+	b = with(with(record("vpscatterdd without operand 2", VPSCATTERDD, 7, 4, 0, 0), 11, NONE, EAX, 0, 0), 2, NONE, K1, 0, 0);
+	refused(ends(b, 0, 0), MASM_BAD_SHAPE);
+	b = with(with(record("vpscatterdd, operand 1 is no mask", VPSCATTERDD, 7, 4, 0, 0), 11, NONE, EAX, 0, 0), 2, NONE, ZMM0, 0, 0);
+	refused(ends(with(b, 1, NONE, ZMM0, 0, 0), 0, 0), MASM_BAD_SHAPE);
+	b = masked(record("vpscatterdd with two masks", VPSCATTERDD, 7, 4, 0, 0), 17, NONE, EAX, 0, 0, K1);
+	refused(ends(with(with(b, 2, NONE, K1, 0, 0), 1, NONE, ZMM0, 0, 0), 0, 0), MASM_BAD_SHAPE);
+	b = with(record("a vector as index, not of vpscatter", VADDPD, 7, 8, 0, 0), 15, NONE, EAX, ZMM0, 4);
+	refused(ends(b, 0, 0), MASM_BAD_FIELD);
+	b = with(record("a vector as base", VPSCATTERDD, 7, 4, 0, 0), 15, NONE, ZMM0, EAX, 4);
+	refused(ends(with(with(b, 2, NONE, K1, 0, 0), 1, NONE, ZMM0, 0, 0), 0, 0), MASM_BAD_FIELD);
+
+	/* {1toN} */
+	b = with(with(record("a mask and a broadcast", VADDPD, 6, 8, 0, 0), 1, NONE, ZMM0 + 1, 0, 0), 1, NONE, ZMM0 + 2, 0, 0);
+	prints(ends(masked(flagged(b, BROADCAST), 17, NONE, EBX, 0, 0, K1), 0, 0), "vaddpd zmm1, zmm2, qword ptr [ebx]{k1}{1to8}");
+	b = ends(masked(with(record("a broadcast of mov", MOV, 6, 4, 0, 0), 1, NONE, ZMM0, 0, 0), 17, NONE, EAX, 0, 0, K1), 0, 0);
+	prints(flagged(b, BROADCAST), "mov zmm0, dword ptr [eax]{k1}{1to16}");
+	for (bits = 0; bits < 4; bits++) {
+		b = flagged(record("a broadcast by the length bits", VCVTPD2PS, 6, 4, 0, 0), BROADCAST);
+		snprintf(text, sizeof text, "vcvtpd2ps ymm0, dword ptr [ecx]{1to%u}", few[bits]);
+		prints(ends(with(with(b, 1, NONE, YMM0, 0, 0), 11, NONE, ECX, 0, 0), bits, 0), text);
+		b = flagged(record("a broadcast of singles", VCVTNEPS2BF16, 6, 4, 0, 0), BROADCAST);
+		snprintf(text, sizeof text, "vcvtneps2bf16 ymm0, dword ptr [ecx]{1to%u}", 2 * few[bits]);
+		prints(ends(with(with(b, 1, NONE, YMM0, 0, 0), 11, NONE, ECX, 0, 0), bits, 0), text);
+	}
+	prints(vaddpd("a broadcast of 16", YMM0, 2), "vaddpd ymm0, word ptr [eax]{1to16}");
+	prints(vaddpd("a broadcast rounded down", ST0, 4), "vaddpd st(0), dword ptr [eax]{1to2}");
+	prints(vaddpd("a broadcast of 0", EAX, 8), "vaddpd eax, qword ptr [eax]{1to0}");
+	refused(vaddpd("a broadcast of 32, by bytes", YMM0, 1), MASM_BAD_BROADCAST);
+	refused(vaddpd("a broadcast of 32, by words", ZMM0, 2), MASM_BAD_BROADCAST);
+	refused(vaddpd("a size and a broadcast", ZMM0, 3), MASM_BAD_SIZE);
+	b = masked(with(record("a broadcast that is not shown", NOP, 6, 1, 0, 0), 1, NONE, ZMM0, 0, 0), 17, NONE, EAX, 0, 0, K1);
+	prints(ends(flagged(b, BROADCAST), 0, 2), "nop");
+	refused(flagged(ends(record("flag 7, extended", VADDPD, 6, 0, 0, 0), 0, 0), 0x80), MASM_BAD_FIELD);
+
+	/* the tail */
+	b = with(with(record("a tail", VADDPD, 6, 0, 0, 0), 1, NONE, ZMM0, 0, 0), 2, NONE, ZMM0 + 1, 0, 0);
+	prints(ends(b, 0, 0), "vaddpd zmm0, zmm1");
+	for (bits = 0; bits < 4; bits++) {
+		prints(ends(b, bits, 1), "vaddpd zmm0, zmm1 {sae}");
+		snprintf(text, sizeof text, "vaddpd zmm0, zmm1 {%s-sae}", rounding[bits]);
+		prints(ends(b, bits, 2), text);
+	}
+	prints(ends(record("a tail without an operand", VADDPD, 6, 0, 0, 0), 0, 2), "vaddpd");
+	refused(ends(record("length bits 4", VADDPD, 6, 0, 0, 0), 4, 0), MASM_BAD_FIELD);
+	refused(ends(record("tail 3", VADDPD, 6, 0, 0, 0), 0, 3), MASM_BAD_FIELD);
+
+	/* lengths: the two bytes belong to the opcode, or to a kind that is stored */
+	refused(record("vaddpd without its two bytes", VADDPD, 6, 0, 0, 0), MASM_BAD_LENGTH);
+	b = ends(record("vaddpd short of one byte", VADDPD, 6, 0, 0, 0), 0, 0);
+	b.length--;
+	refused(b, MASM_BAD_LENGTH);
+	refused(masked(record("a mask without the two bytes", MOV, 6, 4, 0, 0), 17, NONE, EAX, 0, 0, K1), MASM_BAD_LENGTH);
+	refused(with(record("a masked kind of five bytes", MOV, 6, 4, 0, 0), 17, NONE, EAX, 0, 0), MASM_BAD_LENGTH);
+	refused(ends(with(record("two bytes too many", MOV, 6, 4, 0, 0), 1, NONE, EAX, 0, 0), 0, 0), MASM_BAD_LENGTH);
+
+	/* the longest line, which a buffer of 256 bytes does not hold */
+	b = decorated("the longest line", 1);
+	prints(b, longest);
+	check(sizeof longest - 1 == 257, "the longest line has %lu bytes", (unsigned long)(sizeof longest - 1));
+	call(masm_print_record, b.about, b.bytes, b.length, MASM_MODE_STRAIGHT, 256, MASM_NO_ROOM, (const uint8_t *)longest, 257);
+	call(masm_print_record, b.about, b.bytes, b.length, MASM_MODE_STRAIGHT, MASM_LINE_MAX, MASM_PRINTED, (const uint8_t *)longest, 257);
 }
 
 /* ---- listings */
@@ -457,33 +614,47 @@ static void the_same_as_one_listing(void)
 		        lines[mode].at, lines[mode].length);
 }
 
-/* Exactly 16777216 bytes are printed, and one more is refused. Frames of 0 bytes give the longest
-   text that there is: the length returned has to hold it. */
+/* A listing whose text is of `needed` bytes: asked for its length, and printed. `text` has a byte more. */
+static void prints_long(const char *about, const uint8_t *input, size_t length, uint8_t *text, size_t needed)
+{
+	uint64_t returned = masm_print_listing(input, length, MASM_MODE_STRAIGHT, one_byte, 0);
+
+	check(masm_answer(returned) == MASM_NO_ROOM && masm_length(returned) == needed, "%s, no room: answer %lu, length %lu", about,
+	      (unsigned long)masm_answer(returned), (unsigned long)masm_length(returned));
+	text[needed] = 0x5A;
+	returned = masm_print_listing(input, length, MASM_MODE_STRAIGHT, text, needed);
+	check(masm_answer(returned) == MASM_PRINTED && masm_length(returned) == needed, "%s: answer %lu, length %lu", about,
+	      (unsigned long)masm_answer(returned), (unsigned long)masm_length(returned));
+	check(text[needed] == 0x5A, "%s: the byte after the text changed", about);
+}
+
+/* Exactly 16777216 bytes are printed, and one more is refused. Frames of 0 bytes are the most records
+   that there can be, and the second listing has the longest text: the length returned has to hold it. */
 static void the_longest_listing(void)
 {
-	size_t length = MASM_LISTING_MAX, frames = (length - 1) / 2, needed = 12 * frames + 6, i;
-	uint8_t *input = block(length + 1), *text = block(needed + 1);
+	static const char line[] =
+	    "xacquire xrelease lock vcvtneps2bf16 xmmword ptr fs:[eax + ecx * 8 - 80000000h], "
+	    "xmmword ptr fs:[eax + ecx * 8 - 80000000h]{1to16}, xmmword ptr fs:[eax + ecx * 8 - 80000000h]{1to16}, "
+	    "xmmword ptr fs:[eax + ecx * 8 - 80000000h]{1to16} {ru-sae}\n";
+	const size_t length = MASM_LISTING_MAX, empty = (length - 1) / 2, most = 106844360, each = sizeof line - 1;
+	struct body b = decorated("the line with the most text for its bytes", 0);
+	size_t frame = 2 + b.length, full = (length - 1) / frame, i;
+	uint8_t *input = block(length + 1), *text = block(most + 1);
 	uint64_t returned;
 	int same = 1;
 
+	/* 8388607 frames of 0 bytes, and half a length */
 	memset(input, 0, length + 1);
 	input[0] = 1;
-	returned = masm_print_listing(input, length, MASM_MODE_STRAIGHT, one_byte, 0);
-	check(masm_answer(returned) == MASM_NO_ROOM && masm_length(returned) == needed && needed == 100663290,
-	      "the longest listing, no room: answer %lu, length %lu", (unsigned long)masm_answer(returned),
-	      (unsigned long)masm_length(returned));
-	text[needed] = 0x5A;
-	returned = masm_print_listing(input, length, MASM_MODE_STRAIGHT, text, needed);
-	check(masm_answer(returned) == MASM_PRINTED && masm_length(returned) == needed,
-	      "the longest listing: answer %lu, length %lu", (unsigned long)masm_answer(returned), (unsigned long)masm_length(returned));
-	for (i = 0; i < frames; i++)
+	check(12 * empty + 6 == 100663290, "the numbers of this test");
+	prints_long("the most records", input, length, text, 12 * empty + 6);
+	for (i = 0; i < empty; i++)
 		same &= memcmp(text + 12 * i, "; refused 2\n", 12) == 0;
-	same &= memcmp(text + 12 * frames, "; cut\n", 6) == 0;
-	check(same, "the longest listing prints something else");
-	check(text[needed] == 0x5A, "the longest listing: the byte after the text changed");
+	same &= memcmp(text + 12 * empty, "; cut\n", 6) == 0;
+	check(same, "the most records print something else");
 
 	memset(text, 0x5A, 64);
-	returned = masm_print_listing(input, length + 1, MASM_MODE_STRAIGHT, text, needed);
+	returned = masm_print_listing(input, length + 1, MASM_MODE_STRAIGHT, text, most);
 	check(masm_answer(returned) == MASM_BAD_LENGTH && masm_length(returned) == 0, "a byte too many: answer %lu, length %lu",
 	      (unsigned long)masm_answer(returned), (unsigned long)masm_length(returned));
 	same = 1;
@@ -493,6 +664,21 @@ static void the_longest_listing(void)
 	returned = masm_print_listing(input, length + 1, 2, one_byte, 0);
 	check(masm_answer(returned) == MASM_BAD_MODE && masm_length(returned) == 0, "a byte too many in mode 2: answer %lu, length %lu",
 	      (unsigned long)masm_answer(returned), (unsigned long)masm_length(returned));
+
+	/* 441505 frames of 38 bytes, then twelve of 0 bytes and half a length, which are 0 already */
+	for (i = 0; i < full; i++) {
+		put_word(input + 1 + frame * i, (uint32_t)b.length);
+		memcpy(input + 1 + frame * i + 2, b.bytes, b.length);
+	}
+	check(full == 441505 && each * full + 12 * 12 + 6 == most, "the numbers of this test");
+	prints_long("the longest text", input, length, text, most);
+	same = 1;
+	for (i = 0; i < full; i++)
+		same &= memcmp(text + each * i, line, each) == 0;
+	for (i = 0; i < 12; i++)
+		same &= memcmp(text + each * full + 12 * i, "; refused 2\n", 12) == 0;
+	same &= memcmp(text + each * full + 12 * 12, "; cut\n", 6) == 0;
+	check(same, "the longest text is something else");
 	free(input);
 	free(text);
 }
@@ -517,6 +703,7 @@ int main(int argc, char **argv)
 	lines_to_compare();
 	body_lengths();
 	refusals();
+	vector_records();
 	small_listings();
 	the_same_as_one_listing();
 	the_longest_listing();

@@ -2,9 +2,9 @@
  * Measures how much stack the two entries take, and holds it to what the header says.
  *
  * The calls run in a thread whose stack is filled with one byte value before; what is changed below the
- * caller after them was used. The calls go through each opcode with each pair of kinds, several sizes, both
- * modes and a buffer without room, with exactly enough and with plenty, first one by one and then as
- * one listing. The last line is `stack: ..` with the numbers; exit status 1 if one is above the header's.
+ * caller after them was used. The calls go through each opcode with each pair of kinds (of VPSCATTER with a
+ * mask between the two), several sizes, both modes and a buffer without room, with exactly enough and with
+ * plenty, first one by one and then as one listing. The last line is `stack: ..` with the numbers; exit status 1 if one is above the header's.
  */
 #define _XOPEN_SOURCE 700
 #include <pthread.h>
@@ -18,10 +18,13 @@ enum {
 	SAID = 8192,     /* what the header says */
 	ROOM = 1 << 20,  /* the stack that is watched */
 	FILL = 0xA5,
-	OPCODES = 154,
-	KINDS = 16,
+	VPSCATTER = 154, /* the first of four, and of the opcodes whose records are extended */
+	OPCODES = 176,
+	KINDS = 22,
+	MASKED = 17,     /* the first kind with a mask */
+	K1 = 73,
 	SIZES = 2,
-	BODY = 24,
+	BODY = 33,       /* two operands of six bytes, one of five, and two bytes */
 	BODIES = OPCODES * (KINDS + 1) * (KINDS + 1) * SIZES
 };
 
@@ -30,24 +33,29 @@ static size_t listing_len, text_len;
 static unsigned step;
 static uintptr_t caller;
 
-/* An operand of this kind that keeps the record rules; kind 0 is none. */
-static size_t operand(uint8_t *at, unsigned kind, unsigned number)
+/* An operand of this kind that keeps the record rules; kind 0 is none. Extended records have more registers. */
+static size_t operand(uint8_t *at, unsigned kind, unsigned number, int extended)
 {
+	unsigned form = kind >= MASKED ? kind - 6 : kind, reg = number % (extended ? 80 : 64);
+
 	if (kind == 0)
 		return 0;
-	memset(at, 0, 5);
+	memset(at, 0, 6);
 	at[0] = (uint8_t)kind;
-	if (kind >= 9)
+	if (form >= 9)
 		at[1] = 5;
-	if (kind <= 2)
-		at[2] = (uint8_t)(number % 64 == 30 || number % 64 == 31 ? 0 : number % 64);
-	if (kind >= 11)
+	if (form <= 2)
+		at[2] = (uint8_t)(reg == 30 || reg == 31 ? 0 : reg);
+	if (form >= 11)
 		at[2] = 1;
-	if (kind >= 15)
+	if (form >= 15)
 		at[3] = 2;
-	if (kind >= 13)
+	if (form >= 13)
 		at[4] = 8;
-	return 5;
+	if (kind < MASKED)
+		return 5;
+	at[5] = (uint8_t)(K1 + number % 7);
+	return 6;
 }
 
 /* Body `which` of BODIES; its length. */
@@ -57,19 +65,27 @@ static size_t body(uint8_t *at, unsigned which)
 	unsigned opcode = which / SIZES / (KINDS + 1) / (KINDS + 1);
 	unsigned first = which / SIZES / (KINDS + 1) % (KINDS + 1);
 	unsigned second = first == 0 ? 0 : which / SIZES % (KINDS + 1);
+	int scatter = opcode >= VPSCATTER && opcode < VPSCATTER + 4 && first != 0;
+	int extended = opcode >= VPSCATTER || first >= MASKED || second >= MASKED;
 	size_t length = 14;
 
 	memset(at, 0, BODY);
 	at[0] = (uint8_t)(opcode >> 8);
 	at[1] = (uint8_t)opcode;
-	at[2] = 0x3F;
+	at[2] = extended ? 0x7F : 0x3F;
 	at[3] = 15;
 	at[4] = sizes[which % SIZES];
 	at[5] = 0xF0;
 	at[9] = 0x80;
-	at[13] = (uint8_t)((first != 0) + (second != 0));
-	length += operand(at + length, first, which);
-	length += operand(at + length, second, which / 7);
+	at[13] = (uint8_t)((first != 0) + scatter + (second != 0));
+	length += operand(at + length, first, which, extended);
+	if (scatter)
+		length += operand(at + length, 1, K1, extended);
+	length += operand(at + length, second, which / 7, extended);
+	if (extended) {
+		at[length++] = (uint8_t)(which % 4);
+		at[length++] = 2;
+	}
 	return length;
 }
 

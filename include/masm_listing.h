@@ -39,29 +39,57 @@ enum {
 	MASM_MODE_STRAIGHT = 1
 };
 
-/* The answers. Where several apply the lowest is given. */
+/*
+ * The answers. They are asked in the order 1, 2, 3, 4, 5, 7, 6, and the first that applies is given: what gets
+ * 6 is printed once it has the room.
+ */
 enum {
 	/* The text was printed. The length is the number of bytes written, from the start of the buffer;
 	   no byte after them was touched, and no byte 0 is put at the end. */
 	MASM_PRINTED = 0,
 	/* The mode is neither 0 nor 1. */
 	MASM_BAD_MODE = 1,
-	/* Record: the body is under 14 bytes, or is not 14 + 5n bytes for the count n that it stores.
+	/* Record: the body is under 14 bytes, or has not exactly 14, five or six for each operand that its
+	   count says, by the kind that is stored there, and two more if it is extended (see below).
 	   Listing: it is longer than MASM_LISTING_MAX bytes. */
 	MASM_BAD_LENGTH = 2,
-	/* Record only, as are the next two: a field is outside the record rules. */
+	/* Record only, as are 4, 5 and 7: a field is outside the record rules. */
 	MASM_BAD_FIELD = 3,
 	/* The operands are not of a shape that this opcode's line can show. */
 	MASM_BAD_SHAPE = 4,
 	/* The line calls for a size label and mem_size has none there. */
 	MASM_BAD_SIZE = 5,
 	/* The text is longer than the buffer. The length is the number of bytes that it needs. */
-	MASM_NO_ROOM = 6
+	MASM_NO_ROOM = 6,
+	/* The line would show {1toN} with an N above 16. */
+	MASM_BAD_BROADCAST = 7
 };
-/* After 1 to 6 the buffer is as it was before the call. After 1 to 5 the length is 0. */
+/* After any answer but 0 the buffer is as it was before the call. After any but 0 and 6 the length is 0. */
 
-#define MASM_LINE_MAX 256          /* no record's text is longer; a listing's line has a newline more */
+#define MASM_LINE_MAX 320          /* no record's text is longer; a listing's line has a newline more */
 #define MASM_LISTING_MAX 16777216  /* bytes of a listing, its version byte included */
+
+/*
+ * A record's body, in short; docs/FORMAT.md has it in full. Numbers of more than one byte have their highest
+ * byte first.
+ *
+ *   at   bytes
+ *    0       2   opcode, 0 to 175
+ *    2       1   flags: bit 0 xacquire, 1 xrelease, 2 lock, 3 rep, 4 repnz, 5 operand size, 6 {1toN}; bit 7
+ *                is 0, and so is bit 6 unless the record is extended
+ *    3       1   length of the instruction, 1 to 15
+ *    4       1   mem_size
+ *    5       4   imm
+ *    9       4   disp
+ *   13       1   count of operands, 0 to 4
+ *   14  5 or 6   for each operand: kind, segment, first register, second register, scale; of the kinds 17 to
+ *                22, which are 11 to 16 with a mask, also the register byte of the mask, 73 (k1) to 79 (k7)
+ *            2   if the record is extended: length bits (bit 0 l, bit 1 lp; 0 to 3), and tail (0 none,
+ *                1 {sae}, 2 the rounding word of the length bits)
+ *
+ * A record is extended if its opcode is 154 to 175 or if any operand that it stores is of kind 17 to 22. The
+ * register bytes 64 to 71 (zmm0 to zmm7) and 72 to 79 (k0 to k7) are for extended records alone.
+ */
 
 /* One record body: its line, without a newline. */
 uint64_t masm_print_record(const uint8_t *body, size_t body_len, uint32_t mode,

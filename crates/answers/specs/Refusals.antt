@@ -13,7 +13,8 @@ pub record Refusal : Type 0 where
 abbrev pub refusal : ℕ → Bool → Refusal
 refusal number applies = record { number = number; applies = applies }
 
--- document 01's numbers: "1 mode", "2 length", "3 field", "4 shape", "5 size", "6 room"
+-- document 01's numbers: "1 mode", "2 length", "3 field", "4 shape", "5 size", "6 room"; and document 02's "7, a printed `{1toN}` with N
+-- above 16"
 abbrev pub mode : ℕ
 mode = 1
 
@@ -31,6 +32,9 @@ size = 5
 
 abbrev pub room : ℕ
 room = 6
+
+abbrev pub broadcast : ℕ
+broadcast = 7
 
 -- the answer: the number of the first that applies, and 0 where none does
 abbrev pub answerOf : List Refusal → ℕ

@@ -5,7 +5,7 @@ ghost use Rattle.answers.specs.Lines.{decimal, refusedText, refusedLine}
 ghost use Rattle.answers.specs.Outcomes.{Gives};
 ghost use Rattle.answers.specs.Code.{textOutcome};
 
-// Document 01's numbers.
+// The numbers of documents 01 and 02.
 pub const PRINTED: u8 = 0;
 
 pub const MODE: u8 = 1;
@@ -19,6 +19,8 @@ pub const SHAPE: u8 = 4;
 pub const SIZE: u8 = 5;
 
 pub const ROOM: u8 = 6;
+
+pub const BROADCAST: u8 = 7;
 
 // An entry point's answer: 0 and the bytes written, 6 and the room that is asked for, or another refusal and 0.
 pub struct Answer {

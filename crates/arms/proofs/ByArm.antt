@@ -11,7 +11,7 @@ use Rattle.operands.specs.declared.Operand.the-variants.{Absent, Register, Imm,
 use Rattle.names.specs.declared.Arm.{Arm}
 use Rattle.names.specs.declared.Arm.the-variants as arms
 use Rattle.names.proofs.ArmGroups.{Each}
-use Rattle.arms.specs.Shape.{shapeRefused, lslRefused, faddRefused, fbldRefused}
+use Rattle.arms.specs.Shape.{shapeRefused, lslRefused, faddRefused, fbldRefused, scatterRefused}
 
 -- a rule that an absent operand breaks covers the rule that the operand is there
 absent-covered : (f : Operand → Bool) → f Absent ≡ true → (o : Operand) → (isAbsent o || f o) ≡ f o
@@ -20,7 +20,7 @@ absent-covered f e (Register place reg) = refl
 absent-covered f e (Imm kind value) = refl
 absent-covered f e (Absolute16 segment address) = refl
 absent-covered f e (Absolute32 segment address) = refl
-absent-covered f e (Memory segment address) = refl
+absent-covered f e (Memory segment address mask) = refl
 
 no-memory : (o : Operand) → (isAbsent o || not (isMemory o)) ≡ not (isMemory o)
 no-memory o = absent-covered (λ (x : Operand). not (isMemory x)) refl o
@@ -74,3 +74,7 @@ module _ (i : Instruction) where
   pub at-fbld : shapeRefused arms.Fbld i ≡ fbldRefused (i .b)
   unfolding shapeRefused
   at-fbld = simp or-false (absent-covered fbldRefused refl (i .b))
+
+  pub scattering : Each (λ (x : Arm). shapeRefused x i ≡ scatterRefused (i .a) (i .b) (i .c)) (arms.ScatterDword ∷ arms.ScatterQword ∷ [])
+  unfolding shapeRefused
+  scattering = (refl, (refl, tt))

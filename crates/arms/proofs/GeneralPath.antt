@@ -18,7 +18,7 @@ use Rattle.names.specs.Among.{isArm, isOneOf}
 use Rattle.arms.specs.Tests.{isBranch, isXbegin, lslSource}
 use Rattle.arms.specs.Code.{mmwordFor}
 use Rattle.arms.specs.Labels.{generalLabel}
-use Rattle.arms.specs.Plans.{plain, named, none, one, two, three, spread, general, generalPlan, planOf}
+use Rattle.arms.specs.Plans.{plain, named, none, one, two, three, spread, general, generalPlan, placesOf}
 use Rattle.arms.specs.Code.{generalBy}
 use Rattle.arms.specs.Size.{generalPath}
 use Rattle.names.proofs.ArmGroups.{tag, at-group, of-group, Each}
@@ -48,8 +48,8 @@ same-if-left false x y = refl
 -- the arms with one label for all operands and their own segments, wherever they are left to the general path
 abbrev pub alike : List Arm
 alike =
-    arms.General ∷ arms.Qword ∷ arms.Mmword ∷ arms.Cmps ∷ arms.Branch ∷ arms.Call ∷ arms.Xbegin ∷ arms.Feni ∷ arms.Fdisi ∷ arms.Fsetpm ∷ arms.Hreset ∷ arms.Lsl ∷ arms.Prefetch ∷ arms.Sgdt ∷ arms.Lss ∷ arms.Nop ∷
-    arms.Monitor ∷ arms.Mwait ∷ arms.Invlpgb ∷ arms.Rdpru ∷ arms.Scas ∷ arms.Lods ∷ arms.Psmash ∷ arms.Pvalidate ∷ arms.Incssp ∷ arms.Wrss ∷ arms.Pblendvb ∷ arms.Lea ∷ arms.Pushf ∷ arms.Aam ∷
+    arms.General ∷ arms.Qword ∷ arms.Mmword ∷ arms.Cmps ∷ arms.Singles ∷ arms.Doubles ∷ arms.Branch ∷ arms.Call ∷ arms.Xbegin ∷ arms.Feni ∷ arms.Fdisi ∷ arms.Fsetpm ∷ arms.Hreset ∷ arms.Lsl ∷ arms.Prefetch ∷ arms.Sgdt ∷ arms.Lss ∷ arms.Nop ∷
+    arms.ScatterDword ∷ arms.ScatterQword ∷ arms.Monitor ∷ arms.Mwait ∷ arms.Invlpgb ∷ arms.Rdpru ∷ arms.Scas ∷ arms.Lods ∷ arms.Psmash ∷ arms.Pvalidate ∷ arms.Incssp ∷ arms.Wrss ∷ arms.Pblendvb ∷ arms.Lea ∷ arms.Pushf ∷ arms.Aam ∷
     arms.Fcom ∷ arms.Fadd ∷ arms.Fbld ∷ arms.Fbstp ∷ []
 
 -- the plan of the general path by the arms that the code tells apart
@@ -77,7 +77,7 @@ module _ (arm : Arm) (mmword : Bool) (size : ℕ) where
 
 -- the arms that show their name alone of a record that they do not leave to it, if there is any: in the order of the declaration, in three parts
 abbrev silentFirst : List Arm
-silentFirst = arms.General ∷ arms.Qword ∷ arms.Mmword ∷ arms.Jmpf ∷ arms.Callf ∷ arms.Lds ∷ arms.Movs ∷ arms.Cmps ∷ []
+silentFirst = arms.General ∷ arms.Qword ∷ arms.Mmword ∷ arms.Jmpf ∷ arms.Callf ∷ arms.Lds ∷ arms.Movs ∷ arms.Cmps ∷ arms.Singles ∷ arms.Doubles ∷ []
 
 abbrev silentNext : List Arm
 silentNext = arms.Feni ∷ arms.Fdisi ∷ arms.Fsetpm ∷ arms.Nop ∷ []
@@ -111,8 +111,8 @@ module _ (i : Instruction) where
 
   -- ---- The plan that it makes
 
-  pub general-plan : (arm : Arm) → generalPath arm i ≡ true → planOf arm i ≡ generalBy arm (mmwordFor arm i) (i .size)
-  unfolding planOf general generalBy
+  pub general-plan : (arm : Arm) → generalPath arm i ≡ true → placesOf arm i ≡ generalBy arm (mmwordFor arm i) (i .size)
+  unfolding placesOf general generalBy
   general-plan arms.General e = refl
   general-plan arms.Qword e = refl
   general-plan arms.Mmword e = refl
@@ -121,6 +121,8 @@ module _ (i : Instruction) where
   general-plan arms.Lds e = refl
   general-plan arms.Movs e = refl
   general-plan arms.Cmps e = refl
+  general-plan arms.Singles e = refl
+  general-plan arms.Doubles e = refl
   general-plan arms.Branch e = left (isBranch (i .a)) (one place.Branch) (generalPlan i) (sym path-of-branch ∙ e)
   general-plan arms.Call e = left (isBranch (i .a)) (one place.Branch) (generalPlan i) (sym path-of-call ∙ e)
   general-plan arms.Xbegin e = left (isXbegin (i .a)) (one place.Branch) (generalPlan i) (sym path-of-xbegin ∙ e)
@@ -133,6 +135,8 @@ module _ (i : Instruction) where
   general-plan arms.Sgdt e = cc
   general-plan arms.Lss e = cc
   general-plan arms.Nop e = taken (isAbsent (i .b)) (generalPlan i) none (sym path-of-nop ∙ e)
+  general-plan arms.ScatterDword e = cc
+  general-plan arms.ScatterQword e = cc
   general-plan arms.Monitor e = cc
   general-plan arms.Mwait e = cc
   general-plan arms.Invlpgb e = cc
@@ -155,17 +159,17 @@ module _ (i : Instruction) where
   -- ---- The plan of an arm that does not leave its record to it
 
   abbrev pub OwnPlan : Plan → Arm → Type 0
-  OwnPlan v arm = cond (generalPath arm i) v (planOf arm i) ≡ v
+  OwnPlan v arm = cond (generalPath arm i) v (placesOf arm i) ≡ v
 
-  pub own-plan : (v : Plan) (xs : List Arm) (arm : Arm) → Each (OwnPlan v) xs → OneOf (map tag xs) (tag arm) → generalPath arm i ≡ false → planOf arm i ≡ v
+  pub own-plan : (v : Plan) (xs : List Arm) (arm : Arm) → Each (OwnPlan v) xs → OneOf (map tag xs) (tag arm) → generalPath arm i ≡ false → placesOf arm i ≡ v
   own-plan v xs arm all keys e =
-      ap (λ (t : Bool). cond t v (planOf arm i)) (sym e) ∙ at-group (λ (x : Arm). cond (generalPath x i) v (planOf x i)) v xs arm all keys
+      ap (λ (t : Bool). cond t v (placesOf arm i)) (sym e) ∙ at-group (λ (x : Arm). cond (generalPath x i) v (placesOf x i)) v xs arm all keys
 
-  own-by : (v : Plan) (arm : Arm) (t : Bool) → generalPath arm i ≡ t → cond t v (planOf arm i) ≡ v → OwnPlan v arm
-  own-by v arm t e k = ap (λ (u : Bool). cond u v (planOf arm i)) e ∙ k
+  own-by : (v : Plan) (arm : Arm) (t : Bool) → generalPath arm i ≡ t → cond t v (placesOf arm i) ≡ v → OwnPlan v arm
+  own-by v arm t e k = ap (λ (u : Bool). cond u v (placesOf arm i)) e ∙ k
 
   pub own-branch : Each (OwnPlan (one place.Branch)) (arms.Branch ∷ arms.Call ∷ arms.Xbegin ∷ [])
-  unfolding planOf
+  unfolding placesOf
   own-branch = (
     own-by (one place.Branch) arms.Branch (not (isBranch (i .a))) path-of-branch (same-if-held (isBranch (i .a)) (one place.Branch) (generalPlan i)),
     (
@@ -174,40 +178,40 @@ module _ (i : Instruction) where
     ),
   )
 
-  pub own-lsl : (arm : Arm) → arm ≡ arms.Lsl → generalPath arm i ≡ false → planOf arm i ≡ two (plain 0) (named (lslSource (i .a) (i .b)))
-  unfolding planOf
+  pub own-lsl : (arm : Arm) → arm ≡ arms.Lsl → generalPath arm i ≡ false → placesOf arm i ≡ two (plain 0) (named (lslSource (i .a) (i .b)))
+  unfolding placesOf
   own-lsl arm is e =
-      ap (λ (x : Arm). planOf x i) is
+      ap (λ (x : Arm). placesOf x i) is
       ∙ held (isRegister (i .a) && isRegister (i .b)) (two (plain 0) (named (lslSource (i .a) (i .b)))) (generalPlan i) (sym path-of-lsl ∙ (ap (λ (x : Arm). generalPath x i) (sym is) ∙ e))
 
-  pub own-monitor : Each (λ (x : Arm). planOf x i ≡ three (named eax) (named ecx) (named edx)) (arms.Monitor ∷ arms.Pvalidate ∷ [])
-  unfolding planOf
+  pub own-monitor : Each (λ (x : Arm). placesOf x i ≡ three (named eax) (named ecx) (named edx)) (arms.Monitor ∷ arms.Pvalidate ∷ [])
+  unfolding placesOf
   own-monitor = (refl, (refl, tt))
 
   own-nop : OwnPlan none arms.Nop
-  unfolding planOf
+  unfolding placesOf
   own-nop = own-by none arms.Nop (isAbsent (i .b)) path-of-nop (same-if-left (isAbsent (i .b)) none (generalPlan i))
 
   own-aam : OwnPlan none arms.Aam
-  unfolding planOf
+  unfolding placesOf
   own-aam = own-by none arms.Aam (not (eqb (i .imm) 10)) path-of-aam (same-if-held (eqb (i .imm) 10) none (generalPlan i))
 
   own-silent-first : Each (OwnPlan none) silentFirst
-  unfolding planOf
-  own-silent-first = (refl, (refl, (refl, (refl, (refl, (refl, (refl, (refl, tt))))))))
+  unfolding placesOf
+  own-silent-first = (refl, (refl, (refl, (refl, (refl, (refl, (refl, (refl, (refl, (refl, tt))))))))))
 
   own-silent-next : Each (OwnPlan none) silentNext
-  unfolding planOf
+  unfolding placesOf
   own-silent-next = (refl, (refl, (refl, (own-nop, tt))))
 
   own-silent-last : Each (OwnPlan none) silentLast
-  unfolding planOf
+  unfolding placesOf
   own-silent-last = (refl, (refl, (refl, (refl, (own-aam, tt)))))
 
   all-of : (xs ys : List Arm) → Each (OwnPlan none) xs → Each (OwnPlan none) ys → Each (OwnPlan none) (xs ++ ys)
   all-of [] ys a b = b
   all-of (x ∷ xs) ys a b = (a .0, all-of xs ys (a .1) b)
 
-  pub own-silent : (arm : Arm) → OneOf (map tag silent) (tag arm) → generalPath arm i ≡ false → planOf arm i ≡ none
+  pub own-silent : (arm : Arm) → OneOf (map tag silent) (tag arm) → generalPath arm i ≡ false → placesOf arm i ≡ none
   own-silent arm =
       own-plan none silent arm (all-of silentFirst (silentNext ++ silentLast) own-silent-first (all-of silentNext silentLast own-silent-next own-silent-last))

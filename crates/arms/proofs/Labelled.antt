@@ -66,7 +66,7 @@ module _ (mode : Mode) (arm : Arm) (i : Instruction) where
   labels-there place.Nothing e = refl
   labels-there (place.Register reg) e = refl
   labels-there place.Branch e = refl
-  labels-there (place.Operand k label segment short) e = there-before-memory label (isMemory (operandIn i k)) e
+  labels-there (place.Operand k label segment short mask b) e = there-before-memory label (isMemory (operandIn i k)) e
 
   pub plan-labels-there : (plan : Plan) → planLacks i plan ≡ false → lacksLabel (itemsAt mode arm i plan) ≡ false
   unfolding planLacks itemsAt

@@ -28,6 +28,9 @@ use Rattle.operands.specs.declared.Operand.{Operand}
 use Rattle.operands.specs.declared.Label.{Label}
 use Rattle.places.specs.declared.Segment.{Segment}
 use Rattle.places.specs.declared.Segment.the-variants.{Hidden, Shown as Own, UnlessDs}
+use Rattle.places.specs.declared.Mask.the-variants.{Itself}
+use Rattle.operands.specs.declared.Broadcast.{Broadcast}
+use Rattle.operands.specs.declared.Broadcast.the-variants as broadcast
 use Rattle.places.specs.declared.Place.{Place}
 use Rattle.places.specs.declared.Place.the-variants as place
 use Rattle.places.specs.declared.Plan.{Plan}
@@ -54,10 +57,14 @@ use Rattle.arms.specs.Plans.{
   byRegisters,
   generalPlan,
   fadd,
+  placesOf,
+  broadcastAs,
+  decorated,
   planOf,
 }
 use Rattle.arms.specs.Shape.{shapeRefused}
-use Rattle.arms.specs.Size.{hasLabel, generalRefused, sizeRefused}
+use Rattle.arms.specs.Size.{hasLabel, generalPath, generalRefused, sizeRefused}
+use Rattle.arms.specs.Decorations.{broadcastAfter}
 use Rattle.arms.specs.Missing.{placeLacks, planLacks}
 use Rattle.arms.proofs.Labelled.{isMissing}
 use Rattle.arms.proofs.MissingSizes.{number-of-missing, missing-by-size, missing-with-tbyte, missing-for-lss, missing-in-general-path}
@@ -131,7 +138,7 @@ lacking-else i p x e = lacking-unless i p x (generalPlan i) (generalRefused fals
 -- ---- Arms with one label
 
 module _ (l : Label) (segment : Segment) (short : Bool) (k : ℕ) (i : Instruction) where
-  lacking-first : planLacks i (one (place.Operand k (labelNumber l) segment short)) ≡ (isMemory (operandIn i k) && isMissing l)
+  lacking-first : planLacks i (one (place.Operand k (labelNumber l) segment short Itself broadcast.None)) ≡ (isMemory (operandIn i k) && isMissing l)
   unfolding planLacks
   lacking-first = simp or-false (rw (number-of-missing l) (and-comm (isMissing l) (isMemory (operandIn i k))))
 
@@ -139,7 +146,7 @@ module _ (l : Label) (segment : Segment) (short : Bool) (k : ℕ) (i : Instructi
   lacking-second :
       (last : Place) →
       placeLacks i last ≡ false →
-      planLacks i (three (plain 0) (place.Operand k (labelNumber l) segment short) last) ≡ (isMemory (operandIn i k) && isMissing l)
+      planLacks i (three (plain 0) (place.Operand k (labelNumber l) segment short Itself broadcast.None) last) ≡ (isMemory (operandIn i k) && isMissing l)
   unfolding planLacks
   lacking-second last e = simp or-false (rw (e, number-of-missing l) (simp or-false (and-comm (isMissing l) (isMemory (operandIn i k)))))
 
@@ -160,47 +167,77 @@ lacking-fadd i =
 memory-there : (o : Operand) (r : Bool) → r ≡ not (isMemory o) → r ≡ false → isMemory o ≡ true
 memory-there o r is e = not-false (isMemory o) (sym is ∙ e)
 
--- ---- The law
+-- ---- The law, of the places
 
-pub plan-lacking : (arm : Arm) (i : Instruction) → shapeRefused arm i ≡ false → planLacks i (planOf arm i) ≡ sizeRefused arm i
-unfolding planOf sizeRefused planLacks
-plan-lacking arms.General i s = lacking-general-plan i ∙ simp or-false
-plan-lacking arms.Qword i s = lacking-general never i ∙ simp or-false
-plan-lacking arms.Mmword i s = lacking-general always i ∙ simp or-false
-plan-lacking arms.Jmpf i s = lacking-general (byRegisters i true false) i ∙ simp or-false
-plan-lacking arms.Callf i s = lacking-general (byRegisters i true false) i ∙ simp or-false
-plan-lacking arms.Lds i s = lacking-general (byRegisters i false true) i ∙ simp or-false
-plan-lacking arms.Movs i s = lacking-path (hasVector i) false false UnlessDs i ∙ simp or-false
-plan-lacking arms.Cmps i s = lacking-general-plan i ∙ simp or-false
-plan-lacking arms.Branch i s = lacking-else i (isBranch (i .a)) (one place.Branch) refl ∙ simp or-false
-plan-lacking arms.Call i s = lacking-else i (isBranch (i .a)) (one place.Branch) refl ∙ simp or-false
-plan-lacking arms.Xbegin i s = lacking-else i (isXbegin (i .a)) (one place.Branch) refl ∙ simp or-false
-plan-lacking arms.Feni i s = refl
-plan-lacking arms.Fdisi i s = refl
-plan-lacking arms.Fsetpm i s = refl
-plan-lacking arms.Hreset i s = refl
-plan-lacking arms.Lsl i s = lacking-else i (isRegister (i .a) && isRegister (i .b)) (two (plain 0) (named (lslSource (i .a) (i .b)))) refl ∙ simp or-false
-plan-lacking arms.Prefetch i s = refl
-plan-lacking arms.Sgdt i s = refl
-plan-lacking arms.Lss i s =
+places-lacking : (arm : Arm) (i : Instruction) → shapeRefused arm i ≡ false → planLacks i (placesOf arm i) ≡ sizeRefused arm i
+unfolding placesOf sizeRefused planLacks
+places-lacking arms.General i s = lacking-general-plan i ∙ simp or-false
+places-lacking arms.Qword i s = lacking-general never i ∙ simp or-false
+places-lacking arms.Mmword i s = lacking-general always i ∙ simp or-false
+places-lacking arms.Jmpf i s = lacking-general (byRegisters i true false) i ∙ simp or-false
+places-lacking arms.Callf i s = lacking-general (byRegisters i true false) i ∙ simp or-false
+places-lacking arms.Lds i s = lacking-general (byRegisters i false true) i ∙ simp or-false
+places-lacking arms.Movs i s = lacking-path (hasVector i) false false UnlessDs i ∙ simp or-false
+places-lacking arms.Cmps i s = lacking-general-plan i ∙ simp or-false
+places-lacking arms.Singles i s = lacking-general-plan i ∙ simp or-false
+places-lacking arms.Doubles i s = lacking-general-plan i ∙ simp or-false
+places-lacking arms.Branch i s = lacking-else i (isBranch (i .a)) (one place.Branch) refl ∙ simp or-false
+places-lacking arms.Call i s = lacking-else i (isBranch (i .a)) (one place.Branch) refl ∙ simp or-false
+places-lacking arms.Xbegin i s = lacking-else i (isXbegin (i .a)) (one place.Branch) refl ∙ simp or-false
+places-lacking arms.Feni i s = refl
+places-lacking arms.Fdisi i s = refl
+places-lacking arms.Fsetpm i s = refl
+places-lacking arms.Hreset i s = refl
+places-lacking arms.Lsl i s = lacking-else i (isRegister (i .a) && isRegister (i .b)) (two (plain 0) (named (lslSource (i .a) (i .b)))) refl ∙ simp or-false
+places-lacking arms.Prefetch i s = refl
+places-lacking arms.Sgdt i s = refl
+places-lacking arms.Lss i s =
     lacking-second (lssLabel (i .size)) Hidden false 1 i place.Nothing refl
     ∙ rw (missing-for-lss (i .size), memory-there (i .b) _ refl (neither-right (isAbsent (i .a)) _ (sym (at-lss i) ∙ s)))
-plan-lacking arms.Nop i s = lacking-when i (isAbsent (i .b)) (generalPlan i) none (generalRefused false false i) (lacking-general-plan i) refl ∙ simp or-false
-plan-lacking arms.Monitor i s = refl
-plan-lacking arms.Mwait i s = refl
-plan-lacking arms.Invlpgb i s = refl
-plan-lacking arms.Rdpru i s = refl
-plan-lacking arms.Scas i s = lacking-first (sizeLabel (i .size)) Own false 0 i ∙ simp or-false (rw (missing-by-size (i .size), memory-there (i .a) _ (first-memory i .1 .0) s))
-plan-lacking arms.Lods i s = lacking-first (sizeLabel (i .size)) Hidden false 1 i ∙ simp or-false (rw (missing-by-size (i .size), memory-there (i .b) _ (at-lods i) s))
-plan-lacking arms.Psmash i s = refl
-plan-lacking arms.Pvalidate i s = refl
-plan-lacking arms.Incssp i s = lacking-general-plan i ∙ simp or-false
-plan-lacking arms.Wrss i s = lacking-general-plan i ∙ simp or-false
-plan-lacking arms.Pblendvb i s = lacking-second (sizeLabel (i .size)) Own false 1 i (named xmm0) refl ∙ simp or-false (rw (missing-by-size (i .size)))
-plan-lacking arms.Lea i s = refl
-plan-lacking arms.Pushf i s = refl
-plan-lacking arms.Aam i s = lacking-else i (eqb (i .imm) 10) none refl ∙ simp or-false
-plan-lacking arms.Fcom i s = lacking-first (sizeLabel (i .size)) Own false 1 i ∙ simp or-false (rw (missing-by-size (i .size)))
-plan-lacking arms.Fadd i s = lacking-fadd i ∙ simp or-false
-plan-lacking arms.Fbld i s = lacking-first (tbyteLabel (i .size)) Own true 1 i ∙ simp or-false (rw (missing-with-tbyte (i .size)))
-plan-lacking arms.Fbstp i s = lacking-first (tbyteLabel (i .size)) Own false 0 i ∙ simp or-false (rw (missing-with-tbyte (i .size)))
+places-lacking arms.Nop i s = lacking-when i (isAbsent (i .b)) (generalPlan i) none (generalRefused false false i) (lacking-general-plan i) refl ∙ simp or-false
+places-lacking arms.ScatterDword i s = refl
+places-lacking arms.ScatterQword i s = refl
+places-lacking arms.Monitor i s = refl
+places-lacking arms.Mwait i s = refl
+places-lacking arms.Invlpgb i s = refl
+places-lacking arms.Rdpru i s = refl
+places-lacking arms.Scas i s = lacking-first (sizeLabel (i .size)) Own false 0 i ∙ simp or-false (rw (missing-by-size (i .size), memory-there (i .a) _ (first-memory i .1 .0) s))
+places-lacking arms.Lods i s = lacking-first (sizeLabel (i .size)) Hidden false 1 i ∙ simp or-false (rw (missing-by-size (i .size), memory-there (i .b) _ (at-lods i) s))
+places-lacking arms.Psmash i s = refl
+places-lacking arms.Pvalidate i s = refl
+places-lacking arms.Incssp i s = lacking-general-plan i ∙ simp or-false
+places-lacking arms.Wrss i s = lacking-general-plan i ∙ simp or-false
+places-lacking arms.Pblendvb i s = lacking-second (sizeLabel (i .size)) Own false 1 i (named xmm0) refl ∙ simp or-false (rw (missing-by-size (i .size)))
+places-lacking arms.Lea i s = refl
+places-lacking arms.Pushf i s = refl
+places-lacking arms.Aam i s = lacking-else i (eqb (i .imm) 10) none refl ∙ simp or-false
+places-lacking arms.Fcom i s = lacking-first (sizeLabel (i .size)) Own false 1 i ∙ simp or-false (rw (missing-by-size (i .size)))
+places-lacking arms.Fadd i s = lacking-fadd i ∙ simp or-false
+places-lacking arms.Fbld i s = lacking-first (tbyteLabel (i .size)) Own true 1 i ∙ simp or-false (rw (missing-with-tbyte (i .size)))
+places-lacking arms.Fbstp i s = lacking-first (tbyteLabel (i .size)) Own false 0 i ∙ simp or-false (rw (missing-with-tbyte (i .size)))
+
+-- ---- The law, of the plan: a broadcast and a tail take no label away
+
+lacks-with-broadcast : (i : Instruction) (b : Broadcast) (p : Place) → placeLacks i (broadcastAs b p) ≡ placeLacks i p
+lacks-with-broadcast i b place.Nothing = refl
+lacks-with-broadcast i b (place.Register reg) = refl
+lacks-with-broadcast i b place.Branch = refl
+lacks-with-broadcast i b (place.Operand k label segment short mask none) = refl
+
+module _ (arm : Arm) (i : Instruction) where
+  lacks-decorated : (plan : Plan) → planLacks i (decorated arm i plan) ≡ planLacks i plan
+  unfolding planLacks decorated
+  lacks-decorated plan =
+      rw (
+        lacks-with-broadcast i (broadcastAfter arm i (i .a)) (plan .b),
+        lacks-with-broadcast i (broadcastAfter arm i (i .b)) (plan .c),
+        lacks-with-broadcast i (broadcastAfter arm i (i .c)) (plan .d),
+      )
+
+  lacks-either : (g : Bool) (plan : Plan) → planLacks i (cond g (decorated arm i plan) plan) ≡ planLacks i plan
+  lacks-either true plan = lacks-decorated plan
+  lacks-either false plan = refl
+
+  pub plan-lacking : shapeRefused arm i ≡ false → planLacks i (planOf arm i) ≡ sizeRefused arm i
+  unfolding planOf
+  plan-lacking s = lacks-either (generalPath arm i) (placesOf arm i) ∙ places-lacking arm i s

@@ -8,3 +8,7 @@ pub mod Labelled
 pub mod MissingSizes
 pub mod Lacking
 pub mod Ordered
+pub mod Cases
+pub mod Over16
+pub mod Tails
+pub mod PlainPlans

@@ -13,4 +13,4 @@ vector-by-byte (Register place reg) = refl
 vector-by-byte (Imm kind value) = refl
 vector-by-byte (Absolute16 segment address) = refl
 vector-by-byte (Absolute32 segment address) = refl
-vector-by-byte (Memory segment address) = refl
+vector-by-byte (Memory segment address mask) = refl

@@ -7,12 +7,16 @@ use Prim.Native.Nat.{ℕ}
 use lib.Dec.{eqb}
 use Rattle.operands.specs.declared.Operand.{Operand}
 use Rattle.operands.specs.declared.Label.{Label}
-use Rattle.operands.specs.declared.Label.the-variants.{None, Fword}
+use Rattle.operands.specs.declared.Label.the-variants.{None, Dword, Qword, Fword}
+use Rattle.operands.specs.declared.Broadcast.{Broadcast}
+use Rattle.operands.specs.declared.Broadcast.the-variants as broadcast
+use Rattle.operands.specs.declared.Tail.the-variants as tail
 use Rattle.operands.specs.declared.Instruction.{Instruction}
 use Rattle.operands.specs.Kinds.{isAbsent, isRegister, isRegisterR, isMemory}
 use Rattle.operands.specs.RegisterBytes.{eax, ecx, edx, xmm0}
 use Rattle.places.specs.declared.Segment.{Segment}
 use Rattle.places.specs.declared.Segment.the-variants.{Hidden, Shown as Own, UnlessDs}
+use Rattle.places.specs.declared.Mask.the-variants.{Itself, Second}
 use Rattle.places.specs.declared.Place.{Place}
 use Rattle.places.specs.declared.Place.the-variants as place
 use Rattle.places.specs.declared.Plan.{Plan}
@@ -27,6 +31,8 @@ use Rattle.names.specs.declared.Arm.the-variants.{
   Lds,
   Movs,
   Cmps,
+  Singles,
+  Doubles,
   Branch,
   Call,
   Xbegin,
@@ -39,6 +45,8 @@ use Rattle.names.specs.declared.Arm.the-variants.{
   Sgdt,
   Lss,
   Nop,
+  ScatterDword,
+  ScatterQword,
   Monitor,
   Mwait,
   Invlpgb,
@@ -61,20 +69,26 @@ use Rattle.names.specs.declared.Arm.the-variants.{
 use Rattle.names.specs.Among.{isArm, isOneOf}
 use Rattle.arms.specs.Tests.{isBranch, isXbegin, lslSource, hasVector}
 use Rattle.arms.specs.Labels.{sizeLabel, generalLabel, lssLabel, tbyteLabel}
+use Rattle.arms.specs.Size.{generalPath}
+use Rattle.arms.specs.Decorations.{broadcastAfter, tailOf}
 
 -- ---- Places
 
 -- an operand by itself, memory with neither label nor segment
 abbrev pub plain : ℕ → Place
-plain k = place.Operand k (labelNumber None) Hidden false
+plain k = place.Operand k (labelNumber None) Hidden false Itself broadcast.None
 
 -- an operand with this label where it is memory, and its segment as the arm shows it
 abbrev pub labelled : Label → Segment → ℕ → Place
-labelled label segment k = place.Operand k (labelNumber label) segment false
+labelled label segment k = place.Operand k (labelNumber label) segment false Itself broadcast.None
 
 -- an operand by itself, but `st` for st(0)
 abbrev pub st : ℕ → Place
-st k = place.Operand k (labelNumber None) Hidden true
+st k = place.Operand k (labelNumber None) Hidden true Itself broadcast.None
+
+-- operand 0 of VPSCATTER, with this label and operand 1 as its mask: `dword ptr [eax + zmm1 * 4]{k1}`
+abbrev pub scattered : Label → Place
+scattered label = place.Operand 0 (labelNumber label) Hidden false Second broadcast.None
 
 -- a register that the arm shows by itself
 abbrev pub named : ℕ → Place
@@ -83,7 +97,7 @@ named reg = place.Register reg
 -- ---- Plans: places from the left, and nothing after them
 
 abbrev pub four : Place → Place → Place → Place → Plan
-four a b c d = record { a = a; b = b; c = c; d = d }
+four a b c d = record { a = a; b = b; c = c; d = d; tail = tail.None }
 
 abbrev pub three : Place → Place → Place → Plan
 three a b c = four a b c place.Nothing
@@ -141,45 +155,74 @@ fadd size a b =
 
 -- ---- The arms
 
-unfoldable pub planOf : Arm → Instruction → Plan
+-- the places of each arm
+unfoldable pub placesOf : Arm → Instruction → Plan
 -- the general path and what it does for single opcodes
-planOf General i = generalPlan i
-planOf Qword i = general never (i .size)
-planOf Mmword i = general always (i .size)
-planOf Jmpf i = general (byRegisters i true false) (i .size)
-planOf Callf i = general (byRegisters i true false) (i .size)
-planOf Lds i = general (byRegisters i false true) (i .size)
-planOf Movs i = spread (movsLabel i) (movsLabel i) UnlessDs
-planOf Cmps i = generalPlan i
-planOf Branch i = cond (isBranch (i .a)) (one place.Branch) (generalPlan i)
-planOf Call i = cond (isBranch (i .a)) (one place.Branch) (generalPlan i)
-planOf Xbegin i = cond (isXbegin (i .a)) (one place.Branch) (generalPlan i)
+placesOf General i = generalPlan i
+placesOf Qword i = general never (i .size)
+placesOf Mmword i = general always (i .size)
+placesOf Jmpf i = general (byRegisters i true false) (i .size)
+placesOf Callf i = general (byRegisters i true false) (i .size)
+placesOf Lds i = general (byRegisters i false true) (i .size)
+placesOf Movs i = spread (movsLabel i) (movsLabel i) UnlessDs
+placesOf Cmps i = generalPlan i
+placesOf Singles i = generalPlan i
+placesOf Doubles i = generalPlan i
+placesOf Branch i = cond (isBranch (i .a)) (one place.Branch) (generalPlan i)
+placesOf Call i = cond (isBranch (i .a)) (one place.Branch) (generalPlan i)
+placesOf Xbegin i = cond (isXbegin (i .a)) (one place.Branch) (generalPlan i)
 -- a name alone
-planOf Feni i = none
-planOf Fdisi i = none
-planOf Fsetpm i = none
+placesOf Feni i = none
+placesOf Fdisi i = none
+placesOf Fsetpm i = none
 -- the arms of the match on the opcode
-planOf Hreset i = two (plain 0) (named eax)
-planOf Lsl i = cond (isRegister (i .a) && isRegister (i .b)) (two (plain 0) (named (lslSource (i .a) (i .b)))) (generalPlan i)
-planOf Prefetch i = one (plain 0)
-planOf Sgdt i = one (labelled Fword Hidden 0)
-planOf Lss i = two (plain 0) (labelled (lssLabel (i .size)) Hidden 1)
-planOf Nop i = cond (isAbsent (i .b)) (generalPlan i) none
-planOf Monitor i = three (named eax) (named ecx) (named edx)
-planOf Mwait i = two (named eax) (named ecx)
-planOf Invlpgb i = two (plain 0) (plain 2)
-planOf Rdpru i = none
-planOf Scas i = one (labelled (sizeLabel (i .size)) Own 0)
-planOf Lods i = one (labelled (sizeLabel (i .size)) Hidden 1)
-planOf Psmash i = one (named eax)
-planOf Pvalidate i = three (named eax) (named ecx) (named edx)
-planOf Incssp i = generalPlan i
-planOf Wrss i = generalPlan i
-planOf Pblendvb i = three (plain 0) (labelled (sizeLabel (i .size)) Own 1) (named xmm0)
-planOf Lea i = two (plain 0) (plain 1)
-planOf Pushf i = none
-planOf Aam i = cond (eqb (i .imm) 10) none (generalPlan i)
-planOf Fcom i = one (labelled (sizeLabel (i .size)) Own 1)
-planOf Fadd i = fadd (i .size) (i .a) (i .b)
-planOf Fbld i = one (place.Operand 1 (labelNumber (tbyteLabel (i .size))) Own true)
-planOf Fbstp i = one (labelled (tbyteLabel (i .size)) Own 0)
+placesOf Hreset i = two (plain 0) (named eax)
+placesOf Lsl i = cond (isRegister (i .a) && isRegister (i .b)) (two (plain 0) (named (lslSource (i .a) (i .b)))) (generalPlan i)
+placesOf Prefetch i = one (plain 0)
+placesOf Sgdt i = one (labelled Fword Hidden 0)
+placesOf Lss i = two (plain 0) (labelled (lssLabel (i .size)) Hidden 1)
+placesOf Nop i = cond (isAbsent (i .b)) (generalPlan i) none
+placesOf ScatterDword i = two (scattered Dword) (plain 2)
+placesOf ScatterQword i = two (scattered Qword) (plain 2)
+placesOf Monitor i = three (named eax) (named ecx) (named edx)
+placesOf Mwait i = two (named eax) (named ecx)
+placesOf Invlpgb i = two (plain 0) (plain 2)
+placesOf Rdpru i = none
+placesOf Scas i = one (labelled (sizeLabel (i .size)) Own 0)
+placesOf Lods i = one (labelled (sizeLabel (i .size)) Hidden 1)
+placesOf Psmash i = one (named eax)
+placesOf Pvalidate i = three (named eax) (named ecx) (named edx)
+placesOf Incssp i = generalPlan i
+placesOf Wrss i = generalPlan i
+placesOf Pblendvb i = three (plain 0) (labelled (sizeLabel (i .size)) Own 1) (named xmm0)
+placesOf Lea i = two (plain 0) (plain 1)
+placesOf Pushf i = none
+placesOf Aam i = cond (eqb (i .imm) 10) none (generalPlan i)
+placesOf Fcom i = one (labelled (sizeLabel (i .size)) Own 1)
+placesOf Fadd i = fadd (i .size) (i .a) (i .b)
+placesOf Fbld i = one (place.Operand 1 (labelNumber (tbyteLabel (i .size))) Own true Itself broadcast.None)
+placesOf Fbstp i = one (labelled (tbyteLabel (i .size)) Own 0)
+
+-- ---- What document 02 adds to the general path
+
+-- a place with this broadcast
+abbrev pub broadcastAs : Broadcast → Place → Place
+broadcastAs b place.Nothing = place.Nothing
+broadcastAs b (place.Register reg) = place.Register reg
+broadcastAs b place.Branch = place.Branch
+broadcastAs b (place.Operand k label segment short mask none) = place.Operand k label segment short mask b
+
+-- "Flag bit 6 puts `{1toN}` on the general path's memory operands after the first", N by the operand before; the tail ends the line
+unfoldable pub decorated : Arm → Instruction → Plan → Plan
+decorated arm i plan =
+    record {
+      a = plan .a;
+      b = broadcastAs (broadcastAfter arm i (i .a)) (plan .b);
+      c = broadcastAs (broadcastAfter arm i (i .b)) (plan .c);
+      d = broadcastAs (broadcastAfter arm i (i .c)) (plan .d);
+      tail = tailOf i;
+    }
+
+-- the plan of a record
+unfoldable pub planOf : Arm → Instruction → Plan
+planOf arm i = cond (generalPath arm i) (decorated arm i (placesOf arm i)) (placesOf arm i)

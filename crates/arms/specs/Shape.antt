@@ -2,10 +2,11 @@
 -- Assumes nothing.
 use mathlib.Core.Bool.{Bool, not, _&&_, _||_}
 use mathlib.Core.List.{[], _∷_}
+use lib.Dec.{eqb}
 use Rattle.operands.specs.Kinds.{isAbsent, isRegister, isRegisterR, isRegisterM, isMemory}
 use Rattle.operands.specs.declared.Instruction.{Instruction}
 use Rattle.operands.specs.declared.Operand.{Operand}
-use Rattle.operands.specs.Parts.{isBank0}
+use Rattle.operands.specs.Parts.{isBank0, isMaskRegister, maskOf}
 use Rattle.operands.specs.RegisterBytes.{isRegisterByte}
 use Rattle.arms.specs.Tests.{lslSource}
 use Rattle.names.specs.declared.Arm.{Arm}
@@ -15,6 +16,8 @@ use Rattle.names.specs.declared.Arm.the-variants.{
   Prefetch,
   Sgdt,
   Lss,
+  ScatterDword,
+  ScatterQword,
   Invlpgb,
   Scas,
   Lods,
@@ -49,6 +52,11 @@ faddRefused a b = not (isMemory b) && not (isRegisterR a) && not (isRegisterR b)
 abbrev pub fbldRefused : Operand → Bool
 fbldRefused b = not (isMemory b) && not (isRegisterM b)
 
+-- document 02, of VPSCATTER: "operand 0 of kinds 9 to 16 ..; operand 1, the mask, a bank 9 register; else answer 4"; and operand 2 is
+-- printed, so it has to be there
+abbrev pub scatterRefused : Operand → Operand → Operand → Bool
+scatterRefused a b c = not (isMemory a && eqb (maskOf a) 0) || not (isMaskRegister b) || isAbsent c
+
 -- the whole sentence
 unfoldable pub shapeRefused : Arm → Instruction → Bool
 shapeRefused arm i =
@@ -60,3 +68,4 @@ shapeRefused arm i =
     || isArm arm Wrss && not (isBank0 (i .b))
     || isArm arm Fadd && faddRefused (i .a) (i .b)
     || isArm arm Fbld && fbldRefused (i .b)
+    || isOneOf arm (ScatterDword ∷ ScatterQword ∷ []) && scatterRefused (i .a) (i .b) (i .c)

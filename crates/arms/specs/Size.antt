@@ -17,6 +17,8 @@ use Rattle.names.specs.declared.Arm.the-variants.{
   Lds,
   Movs,
   Cmps,
+  Singles,
+  Doubles,
   Branch,
   Call,
   Xbegin,
@@ -51,7 +53,7 @@ generalRefused first later i =
 -- the records that take the general path: those of its own arms, and those that another arm leaves to it
 abbrev pub generalPath : Arm → Instruction → Bool
 generalPath arm i =
-    isOneOf arm (General ∷ Qword ∷ Mmword ∷ Jmpf ∷ Callf ∷ Lds ∷ Movs ∷ Cmps ∷ Incssp ∷ Wrss ∷ [])
+    isOneOf arm (General ∷ Qword ∷ Mmword ∷ Jmpf ∷ Callf ∷ Lds ∷ Movs ∷ Cmps ∷ Singles ∷ Doubles ∷ Incssp ∷ Wrss ∷ [])
     || isOneOf arm (Branch ∷ Call ∷ []) && not (isBranch (i .a))
     || isArm arm Xbegin && not (isXbegin (i .a))
     || isArm arm Lsl && not (isRegister (i .a) && isRegister (i .b))

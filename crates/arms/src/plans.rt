@@ -7,8 +7,10 @@ ghost use Rattle.bodies.specs.Code.{Whole};
 ghost use Rattle.bodies.specs.Decoding.{instructionOf};
 ghost use Rattle.arms.specs.Size.{generalPath};
 ghost use Rattle.arms.specs.Code.{mmwordFor};
-ghost use Rattle.arms.specs.Plans.{plain as plainPlace, st as stPlace, four as fourPlaces, three as threePlaces, two as twoPlaces, one as onePlace, none as noPlace, planOf};
+ghost use Rattle.arms.specs.Plans.{plain as plainPlace, st as stPlace, four as fourPlaces, three as threePlaces, two as twoPlaces, one as onePlace, none as noPlace, placesOf, planOf};
 ghost use Rattle.arms.specs.Code.{generalBy};
+use crate::decorations::decorated;
+use crate::decorations::is_decorated;
 use crate::labels::general_label;
 use crate::labels::lss_label;
 use crate::labels::size_label;
@@ -20,11 +22,16 @@ use bodies::fields;
 use bodies::kinds::is_memory_at;
 use bodies::kinds::is_register_r_at;
 use names::Arm;
+use operands::Broadcast;
+use operands::Tail;
+use places::Mask;
 use places::Place;
 use places::Plan;
 use places::Segment;
+use places::labels::DWORD;
 use places::labels::FWORD;
 use places::labels::NONE;
+use places::labels::QWORD;
 
 // The registers that arms show by themselves.
 const EAX: u8 = 0;
@@ -37,13 +44,15 @@ const XMM0: u8 = 48;
 
 // An operand with this label where it is memory, and its segment as the arm shows it.
 fn labelled(label: u8, segment: Segment, k: u8) -> Place
-    ensures { λ r. ⌜ r ≡ Place.Operand k label segment false ⌝ }
+    ensures { λ r. ⌜ r ≡ Place.Operand k label segment false Mask.Itself Broadcast.None ⌝ }
 {
     Place::Operand {
         k,
         label,
         segment,
         short: false,
+        mask: Mask::Itself,
+        broadcast: Broadcast::None,
     }
 }
 
@@ -61,6 +70,22 @@ fn st(k: u8) -> Place
         label: NONE,
         segment: Segment::Hidden,
         short: true,
+        mask: Mask::Itself,
+        broadcast: Broadcast::None,
+    }
+}
+
+// Operand 0 of VPSCATTER, with operand 1 as its mask.
+fn scattered(label: u8) -> Place
+    ensures { λ r. ⌜ r ≡ Place.Operand 0 label Segment.Hidden false Mask.Second Broadcast.None ⌝ }
+{
+    Place::Operand {
+        k: 0,
+        label,
+        segment: Segment::Hidden,
+        short: false,
+        mask: Mask::Second,
+        broadcast: Broadcast::None,
     }
 }
 
@@ -72,6 +97,7 @@ fn three(a: Place, b: Place, c: Place) -> Plan
         b,
         c,
         d: Place::Nothing,
+        tail: Tail::None,
     }
 }
 
@@ -95,13 +121,14 @@ fn none() -> Plan
 
 // Every operand, the first with one label and those after it with another.
 fn spread(first: u8, later: u8, segment: Segment) -> Plan
-    ensures { λ r. ⌜ r ≡ fourPlaces (Place.Operand 0 first Segment.Shown false) (Place.Operand 1 later segment false) (Place.Operand 2 later segment false) (Place.Operand 3 later segment false) ⌝ }
+    ensures { λ r. ⌜ r ≡ fourPlaces (Place.Operand 0 first Segment.Shown false Mask.Itself Broadcast.None) (Place.Operand 1 later segment false Mask.Itself Broadcast.None) (Place.Operand 2 later segment false Mask.Itself Broadcast.None) (Place.Operand 3 later segment false Mask.Itself Broadcast.None) ⌝ }
 {
     Plan {
         a: labelled(first, Segment::Shown, 0),
         b: labelled(later, segment, 1),
         c: labelled(later, segment, 2),
         d: labelled(later, segment, 3),
+        tail: Tail::None,
     }
 }
 
@@ -149,7 +176,7 @@ fn general(arm: Arm, mmword: bool, size: u8) -> Plan
 
 fn fadd(body: &[u8]) -> Plan
     requires { ⌜ Whole (now body) ⌝ }
-    ensures { λ r. ⌜ r ≡ planOf Arm.Fadd (instructionOf (now (body .entry))) ⌝ }
+    ensures { λ r. ⌜ r ≡ placesOf Arm.Fadd (instructionOf (now (body .entry))) ⌝ }
 {
     if is_memory_at(body, 1) {
         one(labelled(size_label(fields::size(body)), Segment::Shown, 1))
@@ -165,7 +192,7 @@ fn own(arm: Arm, body: &[u8], size: u8) -> Plan
     requires { ⌜ Whole (now body) ⌝ }
     requires { ⌜ size ≡ sizeOf (now body) ⌝ }
     requires { ⌜ generalPath arm (instructionOf (now body)) ≡ false ⌝ }
-    ensures { λ r. ⌜ r ≡ planOf arm (instructionOf (now (body .entry))) ⌝ }
+    ensures { λ r. ⌜ r ≡ placesOf arm (instructionOf (now (body .entry))) ⌝ }
 {
     match arm {
         Arm::Branch | Arm::Call | Arm::Xbegin => one(Place::Branch),
@@ -174,6 +201,8 @@ fn own(arm: Arm, body: &[u8], size: u8) -> Plan
         Arm::Prefetch => one(plain(0)),
         Arm::Sgdt => one(labelled(FWORD, Segment::Hidden, 0)),
         Arm::Lss => two(plain(0), labelled(lss_label(size), Segment::Hidden, 1)),
+        Arm::ScatterDword => two(scattered(DWORD), plain(2)),
+        Arm::ScatterQword => two(scattered(QWORD), plain(2)),
         Arm::Monitor | Arm::Pvalidate => three(
             Place::Register(EAX),
             Place::Register(ECX),
@@ -197,6 +226,8 @@ fn own(arm: Arm, body: &[u8], size: u8) -> Plan
             label: tbyte_label(size),
             segment: Segment::Shown,
             short: true,
+            mask: Mask::Itself,
+            broadcast: Broadcast::None,
         }),
         Arm::Fbstp => one(labelled(tbyte_label(size), Segment::Shown, 0)),
         _ => none(),
@@ -209,7 +240,12 @@ pub fn plan_of(arm: Arm, body: &[u8]) -> Plan
 {
     let size = fields::size(body);
     if is_general(arm, body) {
-        general(arm, is_mmword(arm, body, size), size)
+        let plan = general(arm, is_mmword(arm, body, size), size);
+        if is_decorated(body) {
+            decorated(arm, body, plan)
+        } else {
+            plan
+        }
     } else {
         own(arm, body, size)
     }

@@ -2,11 +2,13 @@
 ghost use mathlib.Core.Path.{_≡_};
 ghost use Rattle.bodies.specs.Code.{Whole};
 ghost use Rattle.bodies.specs.Decoding.{operandAt, instructionOf};
-ghost use Rattle.arms.specs.Shape.{lslRefused, faddRefused, fbldRefused, shapeRefused};
+ghost use Rattle.arms.specs.Shape.{lslRefused, faddRefused, fbldRefused, scatterRefused, shapeRefused};
 use crate::tests::is_bank_0_at;
 use crate::tests::lsl_source;
 use bodies::kinds::is_absent_at;
+use bodies::kinds::is_mask_register_at;
 use bodies::kinds::is_memory_at;
+use bodies::kinds::is_plain_memory_at;
 use bodies::kinds::is_register_at;
 use bodies::kinds::is_register_m_at;
 use bodies::kinds::is_register_r_at;
@@ -18,7 +20,7 @@ fn lsl_refused(body: &[u8]) -> bool
 {
     let source = lsl_source(body);
     !is_register_at(body, 0)
-        | (is_register_at(body, 1) & !((source < 64) & (source != 30) & (source != 31)))
+        | (is_register_at(body, 1) & !((source < 80) & (source != 30) & (source != 31)))
 }
 
 fn fadd_refused(body: &[u8]) -> bool
@@ -33,6 +35,13 @@ fn fbld_refused(body: &[u8]) -> bool
     ensures { λ r. ⌜ r ≡ fbldRefused (operandAt (now (body .entry)) 1) ⌝ }
 {
     !is_memory_at(body, 1) & !is_register_m_at(body, 1)
+}
+
+fn scatter_refused(body: &[u8]) -> bool
+    requires { ⌜ Whole (now body) ⌝ }
+    ensures { λ r. ⌜ r ≡ scatterRefused (operandAt (now (body .entry)) 0) (operandAt (now (body .entry)) 1) (operandAt (now (body .entry)) 2) ⌝ }
+{
+    !is_plain_memory_at(body, 0) | !is_mask_register_at(body, 1) | is_absent_at(body, 2)
 }
 
 // The arms that answer alike stand together; every arm that is not named refuses nothing.
@@ -53,6 +62,7 @@ pub fn shape_refused(arm: Arm, body: &[u8]) -> bool
         Arm::Fcom => is_absent_at(body, 1),
         Arm::Fadd => is_absent_at(body, 0) | is_absent_at(body, 1) | fadd_refused(body),
         Arm::Fbld => fbld_refused(body),
+        Arm::ScatterDword | Arm::ScatterQword => scatter_refused(body),
         _ => false,
     }
 }

@@ -25,6 +25,8 @@ fn place_lacks(body: &[u8], place: Place) -> bool
             label,
             segment: _,
             short: _,
+            mask: _,
+            broadcast: _,
         } => {
             if label == MISSING {
                 is_memory_at(body, k)

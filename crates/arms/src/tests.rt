@@ -63,6 +63,8 @@ pub fn is_general(arm: Arm, body: &[u8]) -> bool
         | Arm::Lds
         | Arm::Movs
         | Arm::Cmps
+        | Arm::Singles
+        | Arm::Doubles
         | Arm::Incssp
         | Arm::Wrss => true,
         Arm::Branch | Arm::Call => {

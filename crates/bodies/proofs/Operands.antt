@@ -1,19 +1,21 @@
--- An operand whose five bytes keep the rules of their kind is a kept operand.
+-- An operand whose bytes keep the rules of their kind is a kept operand.
 -- Assumes nothing.
-use mathlib.Core.Bool.{Bool, true, false, true≢false, false≢true, _||_}
+use mathlib.Core.Bool.{Bool, true, false, true≢false, false≢true, _&&_, _||_}
 use mathlib.Core.Logic.{_⊎_, inl, inr, ⊎-elim}
 use mathlib.Core.Path.{_≡_, refl}
 use Prim.Native.Nat.{ℕ, _+_, _-_, _%_, _^_, _≤_, _<_}
+use native.Mathlib.Decide.{decLt}
 use native.Mathlib.Omega.{arith}
 use lib.Dec.{eqb, leb, ltb, lit<, lit≤}
 use lib.IntN.{pos}
 use mir.Syntax.{w32}
 use mir.Val.{SFits}
-use borrow.Author.Tests.{ltb-true, ltb-false, leb-true, leb-false, eqb-true, eqb-false, not-true, le-leb, lt-leb}
-use Rattle.operands.specs.RegisterBytes.{isRegisterByte}
-use Rattle.bodies.specs.Refusals.{isScale, segmentKept, firstKept, secondKept, scaleKept, operandKept}
+use borrow.Author.Tests.{ltb-true, ltb-false, leb-true, leb-false, eqb-true, eqb-false, not-true, le-leb, lt-leb, ne-eqb}
+use Rattle.operands.specs.Kinds.{isMasked, form}
+use Rattle.operands.specs.RegisterBytes.{bank, isRegisterByte, isOldByte, isAddressByte, isVectorIndexByte, isMaskByte}
+use Rattle.bodies.specs.Refusals.{isScale, segmentKept, registerKept, indexKept, firstKept, secondKept, scaleKept, maskKept, operandKept}
 use Rattle.bodies.specs.Decoding.{immediate, extended, isDisplaced, dispIn, addressOf, operandOf}
-use Rattle.bodies.specs.WellFormed.{RegisterKept, ImmKept, ScaleKept, AddressKept, Kept}
+use Rattle.bodies.specs.WellFormed.{RegisterKept, ImmKept, ScaleKept, IndexKept, MaskKept, AddressKept, Kept}
 use Rattle.bodies.proofs.Picks.{both-left, both-right, either, picked}
 use Rattle.bodies.proofs.Signed.{displacement-fits}
 
@@ -64,67 +66,117 @@ module _ (kind imm : ℕ) where
         u16 = λ e. rw e (omega arith);
       }
 
--- The five bytes keep the rules of their kind.
-module _ (kind segment first second scale : ℕ) (kept : operandKept kind segment first second scale ≡ true) where
+-- a masked kind is one of 17 to 22
+masked-least : (kind : ℕ) → isMasked kind ≡ true → 17 ≤ kind
+masked-least kind e = leb-true 17 kind (both-left (leb 17 kind) (leb kind 22) e)
+
+-- the form of a kind below them is the kind itself, and the form of a memory kind is a memory kind
+pub form-low : (kind : ℕ) → kind < 17 → form kind ≡ kind
+form-low kind h = rw (lt-leb 17 kind h)
+
+form-least : (kind n : ℕ) → n ≤ 11 → n ≤ kind → n ≤ form kind
+form-least kind n most h =
+    picked (λ (m : ℕ). n ≤ m) (isMasked kind) (kind - 6) kind (λ e. omega (arith, masked-least kind e)) (λ e. h)
+
+index-one : (vectors : Bool) (reg : ℕ) → indexKept vectors reg ≡ true → IndexKept reg
+index-one vectors reg e =
+    ⊎-elim (λ f. inl (ltb-true reg 16 f))
+    (λ f.
+    let wide : isVectorIndexByte reg ≡ true = both-right vectors (isVectorIndexByte reg) f in
+    let least = leb-true 6 (bank reg) (both-left (leb 6 (bank reg)) (leb (bank reg) 8) wide) in
+    let most = leb-true (bank reg) 8 (both-right (leb 6 (bank reg)) (leb (bank reg) 8) wide) in
+    inr (omega arith, omega arith))
+    (either (isAddressByte reg) (vectors && isVectorIndexByte reg) e)
+
+mask-one : (kind mask : ℕ) → maskKept kind mask ≡ true → MaskKept mask
+unfolding maskKept
+mask-one kind mask =
+    picked (λ (t : Bool). t ≡ true → MaskKept mask) (isMasked kind) (isMaskByte mask) (eqb mask 0)
+    (λ e f.
+    inr (ltb-true 72 mask (both-left (ltb 72 mask) (ltb mask 80) f), ltb-true mask 80 (both-right (ltb 72 mask) (ltb mask 80) f)))
+    (λ e f. inl (eqb-true mask 0 f))
+
+-- The registers and the scale of a bracket, by its form.
+module _ (extended vectors : Bool) (n first : ℕ) (f : firstKept extended vectors n first ≡ true) where
+  -- a base stands first, except in forms 13 and 14, which have none
+  base-below : 11 ≤ n → (n ≤ 12) ⊎ (15 ≤ n) → first < 16
+  unfolding firstKept
+  base-below h other =
+      let not-13 : n ≡ 13 → ⊥ = ⊎-elim (λ l. λ e. omega arith) (λ l. λ e. omega arith) other in
+      let not-14 : n ≡ 14 → ⊥ = ⊎-elim (λ l. λ e. omega arith) (λ l. λ e. omega arith) other in
+      ltb-true first 16 (rw (lt-leb n 2 (omega arith), ne-eqb n 13 not-13, ne-eqb n 14 not-14, le-leb 11 n h) at f)
+
+  index-first : 13 ≤ n → n ≤ 14 → IndexKept first
+  unfolding firstKept
+  index-first l m =
+      elim (decLt n 14) [
+        | yes h ↦ let is : n ≡ 13 = omega arith in index-one vectors first (rw is at f)
+        | no h ↦ let is : n ≡ 14 = omega arith in index-one vectors first (rw is at f)
+      ]
+
+module _ (vectors : Bool) (n second : ℕ) (s : secondKept vectors n second ≡ true) where
+  index-second : 15 ≤ n → IndexKept second
+  unfolding secondKept
+  index-second h = index-one vectors second (rw (le-leb 15 n h) at s)
+
+-- The bytes of an operand keep the rules of its kind.
+module _ (extended vectors : Bool) (kind segment first second scale mask : ℕ) (kept : operandKept extended vectors kind segment first second scale mask ≡ true) where
   segment-most : 9 ≤ kind → segment ≤ 6
   unfolding segmentKept
   segment-most h =
-      let s : segmentKept kind segment ≡ true = search (both-left, both-right, kept) in
-      leb-true segment 6 (rw (le-leb 9 kind h) at s)
+      let s : segmentKept (form kind) segment ≡ true = search (both-left, both-right, kept) in
+      leb-true segment 6 (rw (le-leb 9 (form kind) (form-least kind 9 (lit≤ tt) h)) at s)
 
   kind-least : 1 ≤ kind
   kind-least = leb-true 1 kind (search (both-left, both-right, kept))
 
-  kind-most : kind ≤ 16
-  kind-most = leb-true kind 16 (search (both-left, both-right, kept))
+  first-kept : firstKept extended vectors (form kind) first ≡ true
+  first-kept = search (both-left, both-right, kept)
+
+  second-kept : secondKept vectors (form kind) second ≡ true
+  second-kept = search (both-left, both-right, kept)
+
+  mask-kept : maskKept kind mask ≡ true
+  mask-kept = search (both-left, both-right, kept)
 
   first-named : kind ≤ 2 → RegisterKept kind first
   unfolding firstKept
   first-named h =
-      let f : firstKept kind first ≡ true = search (both-left, both-right, kept) in
-      let named : isRegisterByte first ≡ true = rw (le-leb kind 2 h) at f in
+      let f : registerKept extended first ≡ true = rw (form-low kind (omega arith), le-leb kind 2 h) at first-kept in
+      let named : isRegisterByte first ≡ true = both-left (isRegisterByte first) (isOldByte first || extended) f in
       record {
         place-least = kind-least;
         place-most = h;
-        below = ltb-true first 64 (search (both-left, both-right, named));
+        below = ltb-true first 80 (search (both-left, both-right, named));
         not-30 = eqb-false first 30 (not-true (eqb first 30) (search (both-left, both-right, named)));
         not-31 = eqb-false first 31 (not-true (eqb first 31) (search (both-left, both-right, named)));
       }
 
-  first-below : 11 ≤ kind → first < 16
-  unfolding firstKept
-  first-below h =
-      let f : firstKept kind first ≡ true = search (both-left, both-right, kept) in
-      ltb-true first 16 (rw (lt-leb kind 2 (omega arith), le-leb 11 kind h) at f)
-
-  second-below : 15 ≤ kind → second < 16
-  unfolding secondKept
-  second-below h =
-      let s : secondKept kind second ≡ true = search (both-left, both-right, kept) in
-      ltb-true second 16 (rw (le-leb 15 kind h) at s)
-
-  scale-kept : 13 ≤ kind → ScaleKept scale
+  scale-kept : 13 ≤ form kind → ScaleKept scale
   unfolding scaleKept
   scale-kept h =
-      let s : scaleKept kind scale ≡ true = search (both-left, both-right, kept) in
-      scale-one scale (rw (le-leb 13 kind h) at s)
+      let s : scaleKept (form kind) scale ≡ true = search (both-left, both-right, kept) in
+      scale-one scale (rw (le-leb 13 (form kind) h) at s)
 
   module _ (disp : ℕ) (fits : disp < 2 ^ 32) where
-    disp-fits : SFits w32 (dispIn kind disp)
-    disp-fits = displacement-fits kind disp (record { fits = fits })
+    abbrev n : ℕ
+    n = form kind
 
-    no-disp : isDisplaced kind ≡ false → dispIn kind disp ≡ pos 0
+    disp-fits : SFits w32 (dispIn n disp)
+    disp-fits = displacement-fits n disp (record { fits = fits })
+
+    no-disp : isDisplaced n ≡ false → dispIn n disp ≡ pos 0
     unfolding dispIn
     no-disp e = rw e
 
-    address-kept : 11 ≤ kind → AddressKept (addressOf kind first second scale disp)
+    address-kept : 11 ≤ n → AddressKept (addressOf n first second scale disp)
     unfolding addressOf
     address-kept h =
-        picked AddressKept (leb kind 12) _ _
+        picked AddressKept (leb n 12) _ _
         (λ e.
         record {
-          base = first-below h;
-          index = lit< tt;
+          base = base-below extended vectors n first first-kept h (inl (leb-true n 12 e));
+          index = inl (lit< tt);
           scale = λ f. absurd (false≢true f);
           disp = disp-fits;
           some-register = refl;
@@ -133,12 +185,12 @@ module _ (kind segment first second scale : ℕ) (kept : operandKept kind segmen
           no-disp = no-disp;
         })
         (λ e.
-        let above = leb-false kind 12 e in
-        picked AddressKept (leb kind 14) _ _
+        let above = leb-false n 12 e in
+        picked AddressKept (leb n 14) _ _
         (λ f.
         record {
           base = lit< tt;
-          index = first-below h;
+          index = index-first extended vectors n first first-kept above (leb-true n 14 f);
           scale = λ g. scale-kept above;
           disp = disp-fits;
           some-register = refl;
@@ -148,8 +200,8 @@ module _ (kind segment first second scale : ℕ) (kept : operandKept kind segmen
         })
         (λ f.
         record {
-          base = first-below h;
-          index = second-below (leb-false kind 14 f);
+          base = base-below extended vectors n first first-kept h (inr (leb-false n 14 f));
+          index = index-second vectors n second second-kept (leb-false n 14 f);
           scale = λ g. scale-kept above;
           disp = disp-fits;
           some-register = refl;
@@ -158,7 +210,7 @@ module _ (kind segment first second scale : ℕ) (kept : operandKept kind segmen
           no-disp = no-disp;
         }))
 
-    pub operand-kept : (imm : ℕ) → imm < 2 ^ 32 → Kept (operandOf imm disp kind segment first second scale)
+    pub operand-kept : (imm : ℕ) → imm < 2 ^ 32 → Kept (operandOf imm disp kind segment first second scale mask)
     unfolding operandOf
     operand-kept imm below =
         picked Kept (leb kind 2) _ _ (λ e. first-named (leb-true kind 2 e))
@@ -169,4 +221,4 @@ module _ (kind segment first second scale : ℕ) (kept : operandKept kind segmen
         picked Kept (leb kind 9) _ _ (λ g. (segmented, omega arith))
         (λ g.
         picked Kept (leb kind 10) _ _ (λ h. (segmented, fits))
-        (λ h. (segmented, address-kept (leb-false kind 10 h))))))
+        (λ h. (segmented, (address-kept (form-least kind 11 (lit≤ tt) (leb-false kind 10 h)), mask-one kind mask mask-kept))))))

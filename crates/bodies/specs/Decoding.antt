@@ -2,7 +2,7 @@
 -- Assumes nothing.
 use mathlib.Core.Bool.{Bool, true, false, cond, _||_}
 use mathlib.Core.List.{List}
-use Prim.Native.Nat.{ℕ, suc, _+_, _-_, _%_, _^_}
+use Prim.Native.Nat.{ℕ, _+_, _-_, _%_, _^_}
 use lib.Dec.{eqb, leb, ltb}
 use lib.IntN.{ℤ, pos}
 use Rattle.frames.specs.Numbers.{signed}
@@ -10,9 +10,9 @@ use Rattle.operands.specs.declared.Address.{Address}
 use Rattle.operands.specs.declared.Operand.{Operand}
 use Rattle.operands.specs.declared.Operand.the-variants.{Absent, Register, Imm, Absolute16, Absolute32, Memory}
 use Rattle.operands.specs.declared.Instruction.{Instruction}
-use Rattle.operands.specs.Kinds.{registerM, i8, i16, u8, u16, u32, absolute16, absolute32, inBaseDisp, inIndexDisp, inBothDisp}
+use Rattle.operands.specs.Kinds.{registerM, i8, i16, u8, u16, u32, absolute16, absolute32, inBaseDisp, inIndexDisp, inBothDisp, form}
 use Rattle.frames.specs.Numbers.{byte}
-use Rattle.bodies.specs.Body.{opcodeOf, flagsOf, lengthOf, sizeOf, immOf, dispOf, countOf, placeOf}
+use Rattle.bodies.specs.Body.{opcodeOf, flagsOf, lengthOf, sizeOf, immOf, dispOf, countOf, placeOf, kindAt, maskAt, bitsOf, tailOf}
 
 -- "Signed immediates are first extended to 32 bits and read as unsigned": `low` has its sign from `top` up
 abbrev pub extended : ℕ → ℕ → ℕ
@@ -68,21 +68,22 @@ addressOf kind first second scale disp =
       displaced = isDisplaced kind;
     }))
 
--- the operand that five bytes say, with imm and disp of the body: "1 register in the R place, 2 register in the M place; immediates
--- 3 .. 8; memory: 9 absolute u16, 10 absolute u32, 11 .."; "absolutes [take] the low bits of disp"
-unfoldable pub operandOf : ℕ → ℕ → ℕ → ℕ → ℕ → ℕ → ℕ → Operand
-operandOf imm disp kind segment first second scale =
+-- the operand that an operand's bytes say, with imm and disp of the body: "1 register in the R place, 2 register in the M place;
+-- immediates 3 .. 8; memory: 9 absolute u16, 10 absolute u32, 11 .."; "absolutes [take] the low bits of disp"; "kinds 17 to 22, being 11
+-- to 16 with a mask", so that the twelve forms of a bracket are one case
+unfoldable pub operandOf : ℕ → ℕ → ℕ → ℕ → ℕ → ℕ → ℕ → ℕ → Operand
+operandOf imm disp kind segment first second scale mask =
     cond (leb kind registerM) (Register kind first) (
     cond (leb kind u32) (Imm kind (immediate kind imm)) (
     cond (leb kind absolute16) (Absolute16 segment (disp % 2 ^ 16)) (
-    cond (leb kind absolute32) (Absolute32 segment disp) (Memory segment (addressOf kind first second scale disp)))))
+    cond (leb kind absolute32) (Absolute32 segment disp) (Memory segment (addressOf (form kind) first second scale disp) mask))))
 
 -- operand k, `Absent` at or past the count
 unfoldable pub operandAt : List ℕ → ℕ → Operand
 operandAt body k =
     cond (ltb k (countOf body))
-    (operandOf (immOf body) (dispOf body) (byte body (placeOf k)) (byte body (placeOf k + 1)) (byte body (placeOf k + 2))
-    (byte body (placeOf k + 3)) (byte body (placeOf k + 4)))
+    (operandOf (immOf body) (dispOf body) (kindAt body k) (byte body (placeOf body k + 1)) (byte body (placeOf body k + 2))
+    (byte body (placeOf body k + 3)) (byte body (placeOf body k + 4)) (maskAt body k))
     Absent
 
 -- the record of a body
@@ -94,6 +95,8 @@ instructionOf body =
       length = lengthOf body;
       size = sizeOf body;
       imm = immOf body;
+      bits = bitsOf body;
+      tail = tailOf body;
       a = operandAt body 0;
       b = operandAt body 1;
       c = operandAt body 2;

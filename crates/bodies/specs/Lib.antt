@@ -4,3 +4,4 @@ pub mod Refusals
 pub mod Decoding
 pub mod WellFormed
 pub mod Code
+pub mod Document01

@@ -24,7 +24,7 @@ Bytes body = (at : ℕ) → byte body at < 2 ^ 8
 pub record RegisterKept (place reg : ℕ) : Type 0 where
   pub place-least : 1 ≤ place
   pub place-most : place ≤ 2
-  pub below : reg < 64
+  pub below : reg < 80
   pub not-30 : reg ≡ 30 → ⊥
   pub not-31 : reg ≡ 31 → ⊥
 
@@ -42,16 +42,24 @@ pub record ImmKept (kind value : ℕ) : Type 0 where
 abbrev pub ScaleKept : ℕ → Type 0
 ScaleKept scale = (scale ≡ 1) ⊎ ((scale ≡ 2) ⊎ ((scale ≡ 4) ⊎ (scale ≡ 8)))
 
--- kinds 11 to 16: registers of banks 0 and 1, a base or an index, and nothing in a part that the kind lacks
+-- an index of banks 0 and 1, or of banks 6 to 8
+abbrev pub IndexKept : ℕ → Type 0
+IndexKept reg = (reg < 16) ⊎ ((48 ≤ reg) × (reg < 72))
+
+-- the twelve forms of a bracket: a base of banks 0 and 1, an index, one of them at least, and nothing in a part that the kind lacks
 pub record AddressKept (a : Address) : Type 0 where
   pub base : a .base < 16
-  pub index : a .index < 16
+  pub index : IndexKept (a .index)
   pub scale : a .indexed ≡ true → ScaleKept (a .scale)
   pub disp : SFits w32 (a .disp)
   pub some-register : (a .based || a .indexed) ≡ true
   pub no-base : a .based ≡ false → a .base ≡ 0
   pub no-index : a .indexed ≡ false → (a .index ≡ 0) × (a .scale ≡ 0)
   pub no-disp : a .displaced ≡ false → a .disp ≡ pos 0
+
+-- no mask, or "k1 to k7"
+abbrev pub MaskKept : ℕ → Type 0
+MaskKept mask = (mask ≡ 0) ⊎ ((73 ≤ mask) × (mask < 80))
 
 -- an operand keeps the rules of its kind; a segment is "0 for none or 1 to 6"
 abbrev pub Kept : Operand → Type 0
@@ -60,16 +68,18 @@ Kept (Register place reg) = RegisterKept place reg
 Kept (Imm kind value) = ImmKept kind value
 Kept (Absolute16 segment address) = (segment ≤ 6) × (address < 2 ^ 16)
 Kept (Absolute32 segment address) = (segment ≤ 6) × (address < 2 ^ 32)
-Kept (Memory segment address) = (segment ≤ 6) × AddressKept address
+Kept (Memory segment address mask) = (segment ≤ 6) × (AddressKept address × MaskKept mask)
 
--- every field keeps its rule, and no operand stands behind an absent one
+-- every field keeps its rule, and no operand stands after an absent one
 pub record WellFormed (i : Instruction) : Type 0 where
   pub opcode : i .opcode < opcodeCount
-  pub flags : i .flags < 64
+  pub flags : i .flags < 128
   pub length-least : 1 ≤ i .length
   pub length-most : i .length ≤ 15
   pub size : i .size < 2 ^ 8
   pub imm : i .imm < 2 ^ 32
+  pub bits : i .bits < 4
+  pub tail : i .tail ≤ 2
   pub a : Kept (i .a)
   pub b : Kept (i .b)
   pub c : Kept (i .c)

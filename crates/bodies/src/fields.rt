@@ -1,7 +1,7 @@
 // The fields of a body whose length is right.
 ghost use mathlib.Core.Path.{_≡_};
 ghost use Rattle.bodies.specs.Code.{Whole};
-ghost use Rattle.bodies.specs.Body.{opcodeOf, flagsOf, lengthOf, sizeOf, immOf, dispOf, countOf};
+ghost use Rattle.bodies.specs.Body.{opcodeOf, flagsOf, lengthOf, sizeOf, immOf, dispOf, countOf, isExtended, bitsOf, tailOf};
 
 pub fn opcode(body: &[u8]) -> u16
     requires { ⌜ Whole (now body) ⌝ }
@@ -50,4 +50,34 @@ pub fn count(body: &[u8]) -> u8
     ensures { λ r. ⌜ r ≡ countOf (now (body .entry)) ⌝ }
 {
     body[13]
+}
+
+// A record that is extended ends in two bytes more, so its length tells it.
+pub fn is_extended(body: &[u8]) -> bool
+    requires { ⌜ Whole (now body) ⌝ }
+    ensures { λ r. ⌜ r ≡ isExtended (now (body .entry)) ⌝ }
+{
+    body.len() != 14 + 5 * (frames::numbers::byte_at(body, 13) as usize)
+}
+
+pub fn bits(body: &[u8]) -> u8
+    requires { ⌜ Whole (now body) ⌝ }
+    ensures { λ r. ⌜ r ≡ bitsOf (now (body .entry)) ⌝ }
+{
+    if is_extended(body) {
+        body[body.len() - 2]
+    } else {
+        0
+    }
+}
+
+pub fn tail(body: &[u8]) -> u8
+    requires { ⌜ Whole (now body) ⌝ }
+    ensures { λ r. ⌜ r ≡ tailOf (now (body .entry)) ⌝ }
+{
+    if is_extended(body) {
+        body[body.len() - 1]
+    } else {
+        0
+    }
 }

@@ -4,6 +4,7 @@ ghost use Rattle.bodies.specs.Code.{Whole};
 ghost use Rattle.bodies.specs.Decoding.{addressOf, operandOf, operandAt};
 use crate::fields;
 use crate::numbers;
+use crate::stored;
 use operands::Address;
 use operands::Operand;
 
@@ -45,8 +46,17 @@ fn address(kind: u8, first: u8, second: u8, scale: u8, disp: u32) -> Address
     }
 }
 
-fn operand(imm: u32, disp: u32, kind: u8, segment: u8, first: u8, second: u8, scale: u8) -> Operand
-    ensures { λ r. ⌜ r ≡ operandOf imm disp kind segment first second scale ⌝ }
+fn operand(
+    imm: u32,
+    disp: u32,
+    kind: u8,
+    segment: u8,
+    first: u8,
+    second: u8,
+    scale: u8,
+    mask: u8,
+) -> Operand
+    ensures { λ r. ⌜ r ≡ operandOf imm disp kind segment first second scale mask ⌝ }
 {
     if kind <= 2 {
         Operand::Register {
@@ -71,17 +81,45 @@ fn operand(imm: u32, disp: u32, kind: u8, segment: u8, first: u8, second: u8, sc
     } else {
         Operand::Memory {
             segment: segment,
-            address: address(kind, first, second, scale, disp),
+            address: address(stored::form_of(kind), first, second, scale, disp),
+            mask: mask,
         }
     }
 }
 
-// Operand k.
+// Operand k of a record that may have masks.
+fn extended_operand_at(body: &[u8], k: u8) -> Operand
+    requires { ⌜ Whole (now body) ⌝ }
+    ensures { λ r. ⌜ r ≡ operandAt (now (body .entry)) k ⌝ }
+{
+    if k < fields::count(body) {
+        let at = stored::place_at(body, k);
+        let kind = body[at];
+        let mask = stored::mask_at(body, k, at);
+        operand(
+            fields::imm(body),
+            fields::disp(body),
+            kind,
+            body[at + 1],
+            body[at + 2],
+            body[at + 3],
+            body[at + 4],
+            mask,
+        )
+    } else {
+        Operand::Absent
+    }
+}
+
+// Operand k. A record that is not extended has no masks before it, so it stands where document 01 has it.
 pub fn operand_at(body: &[u8], k: u8) -> Operand
     requires { ⌜ Whole (now body) ⌝ }
     ensures { λ r. ⌜ r ≡ operandAt (now (body .entry)) k ⌝ }
 {
     if k < fields::count(body) {
+        if fields::is_extended(body) {
+            return extended_operand_at(body, k);
+        }
         let at = 14 + 5 * (k as usize);
         operand(
             fields::imm(body),
@@ -91,6 +129,7 @@ pub fn operand_at(body: &[u8], k: u8) -> Operand
             body[at + 2],
             body[at + 3],
             body[at + 4],
+            0,
         )
     } else {
         Operand::Absent

@@ -1,34 +1,200 @@
-// Document 01's record rules: which bodies are refused.
+// The record rules of documents 01 and 02: which bodies are refused.
 ghost use mathlib.Core.Path.{_≡_};
-ghost use Rattle.bodies.specs.Refusals.{lengthRefused, fieldRefused, operandRefused, segmentKept, firstKept, secondKept, scaleKept};
-ghost use Rattle.bodies.specs.Code.{Whole};
+ghost use mathlib.Core.Bool.{not, _&&_};
+ghost use Prim.Native.Nat.{_≤_};
+ghost use lib.Dec.{eqb};
+ghost use lib.ListN.{length};
+ghost use Rattle.bodies.specs.Body.{opcodeOf, isScatter, isExtended};
+ghost use Rattle.bodies.specs.Refusals.{lengthRefused, fieldRefused, operandRefused, segmentKept, registerKept, indexKept, firstKept, secondKept, scaleKept, maskKept, flagsKept};
+ghost use Rattle.bodies.specs.Code.{Whole, OldWhole, bodyAnswer};
+ghost use Rattle.bodies.specs.Document01.{oldFirstKept, oldSecondKept, oldOperandRefused, oldFieldRefused, oldLengthRefused};
+use crate::fields;
+use crate::stored;
 use names::opcodes::OPCODES;
 
-// The longest body whose length can be right: the count is a byte.
-pub const LONGEST_BODY: usize = 1289;
+// The longest body whose length can be right: the count is a byte, and every operand may have a mask.
+pub const LONGEST_BODY: usize = 1546;
 
+// A body in which an operand has a mask is walked: where an operand stands, the masks before it say. One whose bytes end before its
+// operands do is refused, whatever the kinds of the others would be.
+fn walked_refused(body: &[u8]) -> bool
+    requires { ⌜ 14 ≤ length (now body) ⌝ }
+    ensures { λ r. ⌜ r ≡ lengthRefused (now (body .entry)) ⌝ }
+{
+    let count = frames::numbers::byte_at(body, 13);
+    let mut masked = false;
+    let mut at = 14;
+    let mut k = 0;
+    while k < count {
+        if body.len() <= at {
+            return true;
+        }
+        masked = masked | stored::is_masked(body[at]);
+        at = stored::place_after(body, at);
+        k += 1;
+    }
+    if stored::is_vector_opcode(frames::numbers::word_at(body, 0)) | masked {
+        body.len() != at + 2
+    } else {
+        body.len() != at
+    }
+}
+
+// Until an operand has a mask, each takes five bytes.
 pub fn length_refused(body: &[u8]) -> bool
     ensures { λ r. ⌜ r ≡ lengthRefused (now (body .entry)) ⌝ }
 {
     if body.len() < 14 {
-        true
+        return true;
+    }
+    let count = frames::numbers::byte_at(body, 13) as usize;
+    let end = 14 + 5 * count;
+    if body.len() < end {
+        return true;
+    }
+    let mut k = 0;
+    while k < count {
+        if stored::is_masked(body[14 + 5 * k]) {
+            return walked_refused(body);
+        }
+        k += 1;
+    }
+    if stored::is_vector_opcode(frames::numbers::word_at(body, 0)) {
+        body.len() != end + 2
     } else {
-        body.len() != 14 + 5 * (frames::numbers::byte_at(body, 13) as usize)
+        body.len() != end
     }
 }
 
-fn segment_kept(kind: u8, segment: u8) -> bool
-    ensures { λ r. ⌜ r ≡ segmentKept kind segment ⌝ }
+fn segment_kept(form: u8, segment: u8) -> bool
+    ensures { λ r. ⌜ r ≡ segmentKept form segment ⌝ }
 {
-    if 9 <= kind {
+    if 9 <= form {
         segment <= 6
     } else {
         segment == 0
     }
 }
 
-fn first_kept(kind: u8, first: u8) -> bool
-    ensures { λ r. ⌜ r ≡ firstKept kind first ⌝ }
+fn register_kept(extended: bool, reg: u8) -> bool
+    ensures { λ r. ⌜ r ≡ registerKept extended reg ⌝ }
+{
+    (reg < 80) & (reg != 30) & (reg != 31) & ((reg < 64) | extended)
+}
+
+fn index_kept(vectors: bool, reg: u8) -> bool
+    ensures { λ r. ⌜ r ≡ indexKept vectors reg ⌝ }
+{
+    (reg < 16) | (vectors & ((6 <= reg / 8) & (reg / 8 <= 8)))
+}
+
+fn first_kept(extended: bool, vectors: bool, form: u8, first: u8) -> bool
+    ensures { λ r. ⌜ r ≡ firstKept extended vectors form first ⌝ }
+{
+    if form <= 2 {
+        register_kept(extended, first)
+    } else if (form == 13) | (form == 14) {
+        index_kept(vectors, first)
+    } else if 11 <= form {
+        first < 16
+    } else {
+        first == 0
+    }
+}
+
+fn second_kept(vectors: bool, form: u8, second: u8) -> bool
+    ensures { λ r. ⌜ r ≡ secondKept vectors form second ⌝ }
+{
+    if 15 <= form {
+        index_kept(vectors, second)
+    } else {
+        second == 0
+    }
+}
+
+fn scale_kept(form: u8, scale: u8) -> bool
+    ensures { λ r. ⌜ r ≡ scaleKept form scale ⌝ }
+{
+    if 13 <= form {
+        (scale == 1) | (scale == 2) | (scale == 4) | (scale == 8)
+    } else {
+        scale == 0
+    }
+}
+
+// The mask of a kind that has one. It is 0 in any other.
+fn mask_kept(kind: u8, mask: u8) -> bool
+    ensures { λ r. ⌜ r ≡ maskKept kind mask ⌝ }
+{
+    if stored::is_masked(kind) {
+        (72 < mask) & (mask < 80)
+    } else {
+        mask == 0
+    }
+}
+
+// Operand k, where it is stored. A VPSCATTER's operand 0 scatters.
+fn operand_refused(body: &[u8], k: u8, extended: bool, scatters: bool) -> bool
+    requires { ⌜ Whole (now body) ⌝ }
+    requires { ⌜ extended ≡ isExtended (now body) ⌝ }
+    requires { ⌜ scatters ≡ (eqb k 0 && isScatter (opcodeOf (now body))) ⌝ }
+    ensures { λ r. ⌜ r ≡ operandRefused (now (body .entry)) k ⌝ }
+{
+    if k < fields::count(body) {
+        let at = stored::place_at(body, k);
+        let kind = body[at];
+        let vectors = scatters & !stored::is_masked(kind);
+        let form = stored::form_of(kind);
+        let segment = segment_kept(form, body[at + 1]);
+        let first = first_kept(extended, vectors, form, body[at + 2]);
+        let second = second_kept(vectors, form, body[at + 3]);
+        let scale = scale_kept(form, body[at + 4]);
+        let mask = mask_kept(kind, stored::mask_at(body, k, at));
+        !((1 <= kind) & (kind <= 22) & segment & first & second & scale & mask)
+    } else {
+        false
+    }
+}
+
+fn flags_kept(extended: bool, flags: u8) -> bool
+    ensures { λ r. ⌜ r ≡ flagsKept extended flags ⌝ }
+{
+    if extended { flags < 128 } else { flags < 64 }
+}
+
+pub fn field_refused(body: &[u8]) -> bool
+    requires { ⌜ Whole (now body) ⌝ }
+    ensures { λ r. ⌜ r ≡ fieldRefused (now (body .entry)) ⌝ }
+{
+    let opcode = fields::opcode(body);
+    let extended = fields::is_extended(body);
+    let scatters = (stored::VECTOR_LEAST <= opcode) & (opcode <= stored::SCATTER_MOST);
+    let flags = flags_kept(extended, body[2]);
+    let length = body[3];
+    let count = body[13];
+    let a = operand_refused(body, 0, extended, scatters);
+    let b = operand_refused(body, 1, extended, false);
+    let c = operand_refused(body, 2, extended, false);
+    let d = operand_refused(body, 3, extended, false);
+    let bits = fields::bits(body);
+    let tail = fields::tail(body);
+    (OPCODES <= opcode as usize)
+        | !flags
+        | (length < 1)
+        | (15 < length)
+        | (4 < count)
+        | a
+        | b
+        | c
+        | d
+        | (3 < bits)
+        | (2 < tail)
+}
+
+// ---- A record of document 01's own, which most are. It keeps that document's rules, and then it keeps all of these.
+
+fn old_first_kept(kind: u8, first: u8) -> bool
+    ensures { λ r. ⌜ r ≡ oldFirstKept kind first ⌝ }
 {
     if kind <= 2 {
         (first < 64) & (first != 30) & (first != 31)
@@ -39,33 +205,23 @@ fn first_kept(kind: u8, first: u8) -> bool
     }
 }
 
-fn second_kept(kind: u8, second: u8) -> bool
-    ensures { λ r. ⌜ r ≡ secondKept kind second ⌝ }
+fn old_second_kept(kind: u8, second: u8) -> bool
+    ensures { λ r. ⌜ r ≡ oldSecondKept kind second ⌝ }
 {
     if 15 <= kind { second < 16 } else { second == 0 }
 }
 
-fn scale_kept(kind: u8, scale: u8) -> bool
-    ensures { λ r. ⌜ r ≡ scaleKept kind scale ⌝ }
-{
-    if 13 <= kind {
-        (scale == 1) | (scale == 2) | (scale == 4) | (scale == 8)
-    } else {
-        scale == 0
-    }
-}
-
 // Operand k, where it is stored.
-fn operand_refused(body: &[u8], k: usize) -> bool
-    requires { ⌜ Whole (now body) ⌝ }
-    ensures { λ r. ⌜ r ≡ operandRefused (now (body .entry)) k ⌝ }
+fn old_operand_refused(body: &[u8], k: usize) -> bool
+    requires { ⌜ OldWhole (now body) ⌝ }
+    ensures { λ r. ⌜ r ≡ oldOperandRefused (now (body .entry)) k ⌝ }
 {
     if k < (frames::numbers::byte_at(body, 13) as usize) {
         let at = 14 + 5 * k;
         let kind = body[at];
         let segment = segment_kept(kind, body[at + 1]);
-        let first = first_kept(kind, body[at + 2]);
-        let second = second_kept(kind, body[at + 3]);
+        let first = old_first_kept(kind, body[at + 2]);
+        let second = old_second_kept(kind, body[at + 3]);
         let scale = scale_kept(kind, body[at + 4]);
         !((1 <= kind) & (kind <= 16) & segment & first & second & scale)
     } else {
@@ -73,25 +229,48 @@ fn operand_refused(body: &[u8], k: usize) -> bool
     }
 }
 
-pub fn field_refused(body: &[u8]) -> bool
-    requires { ⌜ Whole (now body) ⌝ }
-    ensures { λ r. ⌜ r ≡ fieldRefused (now (body .entry)) ⌝ }
+fn old_field_refused(body: &[u8]) -> bool
+    requires { ⌜ OldWhole (now body) ⌝ }
+    ensures { λ r. ⌜ r ≡ oldFieldRefused (now (body .entry)) ⌝ }
 {
     let opcode = frames::numbers::word_at(body, 0);
     let flags = body[2];
     let length = body[3];
-    let count = body[13];
-    let a = operand_refused(body, 0);
-    let b = operand_refused(body, 1);
-    let c = operand_refused(body, 2);
-    let d = operand_refused(body, 3);
-    (OPCODES <= opcode as usize)
-        | (64 <= flags)
-        | (length < 1)
-        | (15 < length)
-        | (4 < count)
-        | a
-        | b
-        | c
-        | d
+    let number = body[13];
+    let a = old_operand_refused(body, 0);
+    let b = old_operand_refused(body, 1);
+    let c = old_operand_refused(body, 2);
+    let d = old_operand_refused(body, 3);
+    (154 <= opcode) | (64 <= flags) | (length < 1) | (15 < length) | (4 < number) | a | b | c | d
+}
+
+// No kind is walked over here: the four rules of operands know no mask.
+fn is_old(body: &[u8]) -> bool
+    ensures { λ r. ⌜ r ≡ (not (oldLengthRefused (now (body .entry))) && not (oldFieldRefused (now (body .entry)))) ⌝ }
+{
+    if body.len() < 14 {
+        return false;
+    }
+    if body.len() != 14 + 5 * (frames::numbers::byte_at(body, 13) as usize) {
+        return false;
+    }
+    !old_field_refused(body)
+}
+
+// ---- Both answers
+
+// The first of answers 2 and 3 that applies, and 0 where neither does.
+pub fn refused(body: &[u8]) -> u8
+    ensures { λ r. ⌜ r ≡ bodyAnswer (now (body .entry)) ⌝ }
+{
+    if is_old(body) {
+        return 0;
+    }
+    if length_refused(body) {
+        return 2;
+    }
+    if field_refused(body) {
+        return 3;
+    }
+    0
 }

@@ -50,10 +50,10 @@ module _ (first second : List ℕ) where
   pub kind-differ : same first second ≡ false → kindText (kindOf first second) ≡ kindText (differ first second)
   kind-differ e = rw e
 
-  kind-most : length first ≤ longestLine + 1 → length second ≤ longestLine + 1 → length (kindText (kindOf first second)) ≤ 543
+  kind-most : length first ≤ longestLine + 1 → length second ≤ longestLine + 1 → length (kindText (kindOf first second)) ≤ 671
   unfolding kindText
   kind-most h l =
-      cond-by (λ (kind : Kind). length (kindText kind) ≤ 543) (same first second)
+      cond-by (λ (kind : Kind). length (kindText kind) ≤ 671) (same first second)
       (λ e. omega (arith, h))
       (λ e. omega (arith, length-append first (bytes "  second: " ++ second), h, l))
 
@@ -115,7 +115,7 @@ module _ (asked : Asked) (number : ℕ) where
   unfolding eventsText eventText headText
   named-text kind = append-nil (bytes "record " ++ (decimal (capped number) ++ kindText kind))
 
-  named-most : (kind : Kind) → length (kindText kind) ≤ 543 → length (eventsText (eventsAt number (named kind))) ≤ longestEvent
+  named-most : (kind : Kind) → length (kindText kind) ≤ 671 → length (eventsText (eventsAt number (named kind))) ≤ longestEvent
   named-most kind h =
       rw (named-text kind)
       (omega (arith, length-append (headText (capped number)) (kindText kind), head-most (capped number) (omega arith), h))

@@ -5,7 +5,8 @@ use mathlib.Core.List.{List, [], _∷_, _++_}
 use Prim.Native.Nat.{ℕ}
 use lib.ListN.{length}
 use Rattle.text.specs.Words.{bytes, join}
-use Rattle.bodies.specs.Refusals.{lengthRefused, segmentKept, firstKept, secondKept, scaleKept, operandRefused, fieldRefused}
+use Rattle.bodies.specs.Body.{placeOf, anyMasked, isExtended}
+use Rattle.bodies.specs.Refusals.{lengthRefused, segmentKept, firstKept, secondKept, scaleKept, maskKept, operandRefused, fieldRefused}
 use Rattle.bodies.specs.Decoding.{immediate, dispIn, addressOf, operandOf, operandAt, instructionOf}
 use Rattle.branches.specs.Sums.{signed, branchSum, branchShown}
 use Rattle.names.specs.Opcodes.{arms, armOf, opcodes, mnemonics, mnemonic}
@@ -14,16 +15,18 @@ use Rattle.names.specs.Labels.{labels, labelWord}
 use Rattle.places.specs.Labels.{labelAt}
 use Rattle.places.specs.Places.{operandShown, itemAt, itemsAt}
 use Rattle.arms.specs.Labels.{sizeLabel, generalLabel}
-use Rattle.arms.specs.Plans.{spread, general, planOf}
+use Rattle.arms.specs.Decorations.{broadcastCount, tailOf, broadcastRefused}
+use Rattle.arms.specs.Plans.{spread, general, placesOf, decorated, planOf}
 use Rattle.arms.specs.Shape.{shapeRefused}
 use Rattle.arms.specs.Size.{sizeRefused}
 use Rattle.numerals.specs.Digits.{digit, digits, placesFrom, places}
 use Rattle.numerals.specs.Numerals.{figure, numeral}
 use Rattle.numerals.specs.Decimals.{decimalWithin, decimal}
 use Rattle.lines.specs.Fronts.{labelText, segmentText}
-use Rattle.lines.specs.Items.{branchText, shownText, itemText}
+use Rattle.lines.specs.Brackets.{maskText}
+use Rattle.lines.specs.Items.{branchText, shownText, broadcastText, itemText}
 use Rattle.lines.specs.Head.{headOf}
-use Rattle.lines.specs.Text.{repsText, prefixesText, nameText, headText, partedText, itemsText, lineText}
+use Rattle.lines.specs.Text.{repsText, prefixesText, nameText, headText, partedText, itemsText, tailWord, lineText}
 use Rattle.records.specs.declared.Asked.{Asked}
 use Rattle.records.specs.Records.{refusals, lineAt, recordText}
 use Rattle.records.specs.Lines.{recordLine}
@@ -66,7 +69,7 @@ record Lines : Type 0 where
   nop-1 : recordLine straight (nop 1) ≡ bytes "nop\n"
 
 lines : Lines
-unfolding recordLine refusals recordText lineAt lengthRefused fieldRefused operandRefused segmentKept firstKept secondKept scaleKept shapeRefused sizeRefused armOf arms opcodes instructionOf operandAt operandOf immediate dispIn addressOf planOf spread general generalLabel sizeLabel labelAt operandShown itemAt itemsAt signed branchSum branchShown headOf digit digits placesFrom places figure numeral mnemonics mnemonic registers registerName segments segmentName labels labelWord labelText segmentText branchText shownText itemText repsText prefixesText nameText headText partedText itemsText lineText
+unfolding recordLine refusals recordText lineAt placeOf anyMasked isExtended maskKept broadcastRefused tailOf decorated placesOf maskText broadcastText tailWord lengthRefused fieldRefused operandRefused segmentKept firstKept secondKept scaleKept shapeRefused sizeRefused armOf arms opcodes instructionOf operandAt operandOf immediate dispIn addressOf planOf spread general generalLabel sizeLabel labelAt operandShown itemAt itemsAt signed branchSum branchShown headOf digit digits placesFrom places figure numeral mnemonics mnemonic registers registerName segments segmentName labels labelWord labelText segmentText branchText shownText itemText repsText prefixesText nameText headText partedText itemsText lineText
 lines = record { pushed = refl; jump-126 = refl; jump-125 = refl; nop-0 = refl; nop-1 = refl }
 
 -- a report that says nothing of the first side

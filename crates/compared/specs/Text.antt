@@ -65,4 +65,4 @@ comparison asked first second = reportText 0 (reportOf asked first second)
 
 -- at one place no more is said
 abbrev pub longestEvent : ℕ
-longestEvent = 640
+longestEvent = 704

@@ -17,7 +17,7 @@ use names::registers;
 use records::Asked;
 
 // Room for what any step says.
-pub const LONGEST_EVENT: usize = 640;
+pub const LONGEST_EVENT: usize = 704;
 
 // Takes steps with the bytes that are there and puts what they say into the text from its start: until bytes are wanted, nothing is
 // left to be said, or there is no room for what a step may say.

@@ -14,7 +14,7 @@ use Rattle.operands.specs.declared.Items.{Items}
 use Rattle.lines.specs.Items.{itemText}
 use Rattle.lines.specs.declared.Head.{Head}
 use Rattle.lines.specs.declared.Line.{Line}
-use Rattle.lines.specs.Text.{repsText, prefixesText, nameText, headText, shows, partedText, itemsText, lineText}
+use Rattle.lines.specs.Text.{repsText, prefixesText, nameText, headText, shows, partedText, itemsText, tailWord, lineText}
 
 pub prefixes-length : (h : Head) → length (prefixesText h) ≡ cond (h .xacquire) 9 0 + cond (h .xrelease) 9 0 + cond (h .lock) 5 0 + cond (h .rep) 4 0 + cond (h .repne) 6 0
 unfolding prefixesText repsText
@@ -61,6 +61,11 @@ items-length is =
     let d = partedText (bytes ", ") (is .d) in
     omega (arith, length-append a (b ++ (c ++ d)), length-append b (c ++ d), length-append c d)
 
-pub line-length : (l : Line) → length (lineText l) ≡ length (headText (l .head)) + length (itemsText (l .items))
+pub line-length : (l : Line) → length (lineText l) ≡ length (headText (l .head)) + length (itemsText (l .items)) + length (tailWord (l .tail))
 unfolding lineText
-line-length l = length-append (headText (l .head)) (itemsText (l .items))
+line-length l =
+    omega (
+      arith,
+      length-append (headText (l .head)) (itemsText (l .items) ++ tailWord (l .tail)),
+      length-append (itemsText (l .items)) (tailWord (l .tail)),
+    )

@@ -1,25 +1,33 @@
 -- The parts of an operand's text: their cases and their lengths.
 -- Assumes nothing.
-use mathlib.Core.Path.{_≡_, refl, sym, _∙_}
-use mathlib.Core.Bool.{Bool, true, false}
-use mathlib.Core.List.{[], _++_}
-use Prim.Native.Nat.{ℕ, _+_, _<_, _≤_}
+use mathlib.Core.Path.{_≡_, refl, sym, ap, _∙_}
+use mathlib.Core.Bool.{Bool, true, false, cond}
+use mathlib.Core.List.{List, [], _∷_, _++_, append-assoc}
+use Prim.Native.Nat.{ℕ, _+_, _/_, _%_, _<_, _≤_}
 use native.Mathlib.Nat.{add-assoc}
 use native.Mathlib.Omega.{arith}
-use borrow.Author.Tests.{lt-ltb, le-ltb}
+use borrow.Author.Tests.{lt-ltb, le-ltb, ltb-true}
+use lib.Dec.{ltb}
 use lib.IntN.{ℤ}
 use lib.ListN.{length, length-append}
 use Rattle.text.specs.Words.{bytes}
+use Rattle.text.proofs.Choosing.{cond-by}
+use Rattle.numerals.specs.Decimals.{decimalWithin}
 use Rattle.numerals.specs.Digits.{digits}
 use Rattle.numerals.specs.Numerals.{numeral, displacement, absolute}
-use Rattle.names.specs.Registers.{segmentName}
+use Rattle.names.specs.Registers.{registerName, segmentName}
 use Rattle.operands.specs.declared.Address.{Address}
 use Rattle.operands.specs.declared.BranchWord.{BranchWord}
 use Rattle.operands.specs.declared.BranchWord.the-variants as word
+use Rattle.operands.specs.declared.Broadcast.{Broadcast}
+use Rattle.operands.specs.declared.Broadcast.the-variants as broadcast
 use Rattle.operands.specs.declared.Item.{Item}
+use Rattle.operands.specs.declared.Tail.{Tail}
+use Rattle.operands.specs.declared.Tail.the-variants as tail
 use Rattle.lines.specs.Fronts.{labelText, segmentText}
-use Rattle.lines.specs.Brackets.{baseText, scaleText, indexText, tailText, bracketText}
-use Rattle.lines.specs.Items.{absoluteText, signText, wordText, branchText, shownText, itemText}
+use Rattle.lines.specs.Brackets.{baseText, scaleText, indexText, tailText, bracketText, maskText, maskedText}
+use Rattle.lines.specs.Items.{absoluteText, signText, wordText, branchText, shownText, broadcastText, itemText}
+use Rattle.lines.specs.Text.{tailWord}
 
 pub scale-shown : {s : ℕ} → 1 < s → scaleText s ≡ bytes " * " ++ digits 1 s
 unfolding scaleText
@@ -62,6 +70,69 @@ pub segment-none : {s : ℕ} → s ≤ 0 → segmentText s ≡ []
 unfolding segmentText
 segment-none {s} h = rw (le-ltb 0 s h)
 
+pub mask-some : {m : ℕ} → 0 < m → maskText m ≡ bytes "{" ++ (registerName m ++ bytes "}")
+unfolding maskText
+mask-some {m} h = rw (lt-ltb 0 m h)
+
+pub mask-none : {m : ℕ} → m ≤ 0 → maskText m ≡ []
+unfolding maskText
+mask-none {m} h = rw (le-ltb 0 m h)
+
+module _ {b : Broadcast} where
+  pub broadcast-none : b ≡ broadcast.None → broadcastText b ≡ []
+  unfolding broadcastText
+  broadcast-none e = rw e
+
+  pub broadcast-to : {n : ℕ} → b ≡ broadcast.To n → broadcastText b ≡ bytes "{1to" ++ (decimalWithin 2 n ++ bytes "}")
+  unfolding broadcastText
+  broadcast-to e = rw e
+
+-- bracket and mask before any text
+pub masked-append : (a : Address) (mask : ℕ) (t : List ℕ) → maskedText a mask ++ t ≡ bracketText a ++ (maskText mask ++ t)
+unfolding maskedText
+masked-append a mask t = append-assoc (bracketText a) (maskText mask) t
+
+-- two digits as they are put
+pub two-digits-one : (n : ℕ) → n < 10 → decimalWithin 2 n ≡ (48 + n) ∷ []
+unfolding decimalWithin
+two-digits-one n h = rw (lt-ltb n 10 h)
+
+pub two-digits-two : (n : ℕ) → 10 ≤ n → decimalWithin 2 n ≡ ((48 + n / 10 % 10) ∷ []) ++ ((48 + n % 10) ∷ [])
+unfolding decimalWithin
+two-digits-two n h =
+    rw (le-ltb n 10 h) (ap (λ (t : List ℕ). t ++ ((48 + n % 10) ∷ [])) (tens (n / 10)))
+  where
+    tens : (m : ℕ) → cond (ltb m 10) ((48 + m) ∷ []) ((48 + m % 10) ∷ []) ≡ (48 + m % 10) ∷ []
+    tens m =
+        cond-by (λ (t : List ℕ). t ≡ (48 + m % 10) ∷ []) (ltb m 10)
+        (λ e. ap (λ (d : ℕ). (48 + d) ∷ []) (let h = ltb-true m 10 e in omega arith))
+        (λ e. refl)
+
+module _ {t : Tail} where
+  pub tail-none : t ≡ tail.None → tailWord t ≡ []
+  unfolding tailWord
+  tail-none e = rw e
+
+  pub tail-sae : t ≡ tail.Sae → tailWord t ≡ bytes " {sae}"
+  unfolding tailWord
+  tail-sae e = rw e
+
+  pub tail-nearest : t ≡ tail.Nearest → tailWord t ≡ bytes " {rn-sae}"
+  unfolding tailWord
+  tail-nearest e = rw e
+
+  pub tail-down : t ≡ tail.Down → tailWord t ≡ bytes " {rd-sae}"
+  unfolding tailWord
+  tail-down e = rw e
+
+  pub tail-up : t ≡ tail.Up → tailWord t ≡ bytes " {ru-sae}"
+  unfolding tailWord
+  tail-up e = rw e
+
+  pub tail-zero : t ≡ tail.Zero → tailWord t ≡ bytes " {rz-sae}"
+  unfolding tailWord
+  tail-zero e = rw e
+
 -- lengths
 pub bracket-length : (a : Address) → length (bracketText a) ≡ 1 + length (baseText (a .based) (a .base)) + length (indexText a) + length (tailText (a .displaced) (a .disp))
 unfolding bracketText
@@ -70,6 +141,10 @@ bracket-length a =
     let tail = tailText (a .displaced) (a .disp) in
     length-append (bytes "[") (base ++ (indexText a ++ tail))
     ∙ rw (length-append base (indexText a ++ tail), length-append (indexText a) tail) (omega arith)
+
+pub masked-length : (a : Address) (mask : ℕ) → length (maskedText a mask) ≡ length (bracketText a) + length (maskText mask)
+unfolding maskedText
+masked-length a mask = length-append (bracketText a) (maskText mask)
 
 pub absolute-length : (k address : ℕ) → length (absoluteText k address) ≡ 2 + length (absolute k address)
 unfolding absoluteText
@@ -87,10 +162,20 @@ branch-length w minus size =
     sign-length true = refl
     sign-length false = refl
 
-pub item-length : (i : Item) → length (itemText i) ≡ length (labelText (i .label)) + length (segmentText (i .segment)) + length (shownText (i .shown))
+pub item-length :
+    (i : Item) →
+    length (itemText i) ≡ length (labelText (i .label)) + length (segmentText (i .segment)) + length (shownText (i .shown)) + length (maskText (i .mask)) + length (broadcastText (i .broadcast))
 unfolding itemText
 item-length i =
     let label = labelText (i .label) in
     let segment = segmentText (i .segment) in
-    length-append label (segment ++ shownText (i .shown))
-    ∙ rw (length-append segment (shownText (i .shown))) (sym (add-assoc (length label) (length segment) (length (shownText (i .shown)))))
+    let shown = shownText (i .shown) in
+    let mask = maskText (i .mask) in
+    let broadcast = broadcastText (i .broadcast) in
+    omega (
+      arith,
+      length-append label (segment ++ (shown ++ (mask ++ broadcast))),
+      length-append segment (shown ++ (mask ++ broadcast)),
+      length-append shown (mask ++ broadcast),
+      length-append mask broadcast,
+    )

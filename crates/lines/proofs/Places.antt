@@ -17,10 +17,11 @@ use Rattle.names.specs.Registers.{registerName}
 use Rattle.names.specs.declared.Arm.{Arm}
 use Rattle.names.proofs.ArmGroups.{not-one-of}
 use Rattle.operands.specs.Kinds.{isAbsent, isRegister, isMemory}
-use Rattle.operands.specs.Parts.{shownOf, segmentOf, immediateKind, immediateOf, bare}
+use Rattle.operands.specs.Parts.{operandIn, shownOf, segmentOf, registerOf, immediateKind, immediateOf, maskOf, bare}
 use Rattle.operands.specs.RegisterBytes.{st0}
 use Rattle.operands.specs.declared.Address.{Address}
 use Rattle.operands.specs.declared.BranchWord.{BranchWord}
+use Rattle.operands.specs.declared.Broadcast.{Broadcast}
 use Rattle.operands.specs.declared.Instruction.{Instruction}
 use Rattle.operands.specs.declared.Label.{Label}
 use Rattle.operands.specs.declared.Label.the-variants.{None}
@@ -36,19 +37,22 @@ use Rattle.bodies.proofs.Counted.{operand-in}
 use Rattle.branches.specs.Sums.{branchShown}
 use Rattle.branches.specs.declared.Mode.{Mode}
 use Rattle.places.specs.Labels.{labelNumber, labelsInOrder, labelAt}
-use Rattle.places.specs.Places.{segmentShown, valueShown, operandShown, branchOf, itemAt, itemsAt}
+use Rattle.places.specs.Places.{segmentShown, valueShown, maskShown, operandShown, branchOf, itemAt, itemsAt}
+use Rattle.places.specs.declared.Mask.{Mask}
+use Rattle.places.specs.declared.Mask.the-variants.{Itself, Second}
 use Rattle.places.specs.declared.Place.{Place}
 use Rattle.places.specs.declared.Place.the-variants as place
 use Rattle.places.specs.declared.Plan.{Plan}
 use Rattle.places.specs.declared.Segment.{Segment}
 use Rattle.places.specs.declared.Segment.the-variants.{Hidden, Shown as Own, UnlessDs}
 use Rattle.lines.specs.Fronts.{labelText, segmentText}
-use Rattle.lines.specs.Brackets.{bracketText}
-use Rattle.lines.specs.Items.{absoluteText, branchText, shownText, itemText}
+use Rattle.lines.specs.Brackets.{maskText, maskedText}
+use Rattle.lines.specs.Items.{absoluteText, branchText, shownText, broadcastText, itemText}
 use Rattle.lines.specs.Head.{headOf}
-use Rattle.lines.specs.Text.{headText, shows, partedText, itemsText, lineText, lineBy}
+use Rattle.lines.specs.Text.{headText, shows, partedText, itemsText, tailWord, lineText, lineBy}
 use Rattle.lines.specs.Code.{itemsFrom}
-use Rattle.lines.specs.Code.{shownSegment, frontText, registerText, placeAt, separatorAt}
+use Rattle.lines.specs.Code.{shownSegment, shownMask, frontText, registerText, placeAt, separatorAt}
+use Rattle.lines.proofs.Parts.{masked-append}
 
 -- a table's end may have an empty word more
 empty-last : (ws : List (List ℕ)) (n : ℕ) → getD (ws ++ ([] ∷ [])) n [] ≡ getD ws n []
@@ -83,53 +87,71 @@ unfolding shownText
 shortened true reg = refl
 shortened false reg = refl
 
--- what has no label and no segment is shown alone
+-- the mask that is shown of memory is its own, or operand 1's register
+mask-by-own : (mask : Mask) (second : ℕ) (o : Operand) → isMemory o ≡ true → maskShown mask second o ≡ shownMask mask (maskOf o) second
+mask-by-own Itself second o m = refl
+mask-by-own Second second o m = rw m
+
+no-mask : (mask : Mask) (second : ℕ) (o : Operand) → isMemory o ≡ false → maskOf o ≡ 0 → maskShown mask second o ≡ 0
+no-mask Itself second o m z = z
+no-mask Second second o m z = rw m
+
+-- what has nothing before it and nothing after it is shown alone
 pub text-bare : (s : Shown) → itemText (bare s) ≡ shownText s
-unfolding itemText labelText labelWord labels segmentText
-text-bare s = refl
+unfolding itemText labelText labelWord labels segmentText maskText broadcastText
+text-bare s = append-nil (shownText s)
 
 -- how an operand is shown, case by case
-module _ (label : ℕ) (segment : Segment) (short : Bool) where
+module _ (label : ℕ) (segment : Segment) (short : Bool) (mask : Mask) (second : ℕ) (b : Broadcast) where
+  abbrev textOf : Operand → List ℕ
+  textOf o = itemText (operandShown (labelAt label) segment short mask second b o)
+
   module _ (o : Operand) where
     -- an operand that is no memory
-    plain : isMemory o ≡ false → segmentOf o ≡ 0 → itemText (operandShown (labelAt label) segment short o) ≡ shownText (valueShown short o)
+    plain : isMemory o ≡ false → segmentOf o ≡ 0 → maskOf o ≡ 0 → textOf o ≡ shownText (valueShown short o)
     unfolding operandShown
-    plain m z = rw (m, segment-by-own segment o, z, no-segment segment) (text-bare (valueShown short o))
+    plain m z n =
+        rw (m, segment-by-own segment o, z, no-segment segment, no-mask mask second o m n) (text-bare (valueShown short o))
 
     -- one that is memory
-    memory : isMemory o ≡ true → isRegister o ≡ false → itemText (operandShown (labelAt label) segment short o) ≡ frontText label (shownSegment segment (segmentOf o)) ++ shownText (shownOf o)
+    memory : isMemory o ≡ true → isRegister o ≡ false → textOf o ≡ frontText label (shownSegment segment (segmentOf o)) ++ (shownText (shownOf o) ++ (maskText (shownMask mask (maskOf o) second) ++ broadcastText b))
     unfolding operandShown itemText
     memory m r =
-        rw (m, segment-by-own segment o, unshortened short o r, label-by-number label)
-        (sym (append-assoc (labelWord label) (segmentText (shownSegment segment (segmentOf o))) (shownText (shownOf o))))
+        rw (m, segment-by-own segment o, mask-by-own mask second o m, unshortened short o r, label-by-number label)
+        (sym (append-assoc (labelWord label) (segmentText (shownSegment segment (segmentOf o))) (shownText (shownOf o) ++ (maskText (shownMask mask (maskOf o) second) ++ broadcastText b))))
 
   module _ {o : Operand} where
-    pub text-absent : o ≡ operand.Absent → itemText (operandShown (labelAt label) segment short o) ≡ []
+    pub text-absent : o ≡ operand.Absent → textOf o ≡ []
     unfolding shownText
-    text-absent e = rw e (plain operand.Absent refl refl ∙ ap shownText (unshortened short operand.Absent refl))
+    text-absent e = rw e (plain operand.Absent refl refl refl ∙ ap shownText (unshortened short operand.Absent refl))
 
-    pub text-register : {kind reg : ℕ} → o ≡ operand.Register kind reg → itemText (operandShown (labelAt label) segment short o) ≡ registerText short reg
+    pub text-register : {kind reg : ℕ} → o ≡ operand.Register kind reg → textOf o ≡ registerText short reg
     text-register {kind} {reg} e =
-        rw e (plain (operand.Register kind reg) refl refl ∙ shortened (short && eqb reg st0) reg)
+        rw e (plain (operand.Register kind reg) refl refl refl ∙ shortened (short && eqb reg st0) reg)
 
-    pub text-number : {kind value : ℕ} → o ≡ operand.Imm kind value → itemText (operandShown (labelAt label) segment short o) ≡ numeral value
+    pub text-number : {kind value : ℕ} → o ≡ operand.Imm kind value → textOf o ≡ numeral value
     unfolding shownText
     text-number {kind} {value} e =
-        rw e (plain (operand.Imm kind value) refl refl ∙ ap shownText (unshortened short (operand.Imm kind value) refl))
+        rw e (plain (operand.Imm kind value) refl refl refl ∙ ap shownText (unshortened short (operand.Imm kind value) refl))
 
-    -- memory, after the front with the segment `s`
+    -- memory, after the front with the segment `s` and before the mask `m` and the broadcast
     module _ {s own : ℕ} (is : s ≡ shownSegment segment own) where
-      pub text-word : {address : ℕ} → o ≡ operand.Absolute16 own address → itemText (operandShown (labelAt label) segment short o) ≡ frontText label s ++ absoluteText 4 address
-      unfolding shownText
-      text-word {address} e = rw (e, is) (memory (operand.Absolute16 own address) refl refl)
+      module _ {m : ℕ} (masked : m ≡ shownMask mask 0 second) where
+        pub text-word : {address : ℕ} → o ≡ operand.Absolute16 own address → textOf o ≡ frontText label s ++ (absoluteText 4 address ++ (maskText m ++ broadcastText b))
+        unfolding shownText
+        text-word {address} e = rw (e, is, masked) (memory (operand.Absolute16 own address) refl refl)
 
-      pub text-dword : {address : ℕ} → o ≡ operand.Absolute32 own address → itemText (operandShown (labelAt label) segment short o) ≡ frontText label s ++ absoluteText 8 address
-      unfolding shownText
-      text-dword {address} e = rw (e, is) (memory (operand.Absolute32 own address) refl refl)
+        pub text-dword : {address : ℕ} → o ≡ operand.Absolute32 own address → textOf o ≡ frontText label s ++ (absoluteText 8 address ++ (maskText m ++ broadcastText b))
+        unfolding shownText
+        text-dword {address} e = rw (e, is, masked) (memory (operand.Absolute32 own address) refl refl)
 
-      pub text-bracket : {address : Address} → o ≡ operand.Memory own address → itemText (operandShown (labelAt label) segment short o) ≡ frontText label s ++ bracketText address
+      pub text-bracket : {address : Address} {k m : ℕ} → m ≡ shownMask mask k second → o ≡ operand.Memory own address k → textOf o ≡ frontText label s ++ (maskedText address m ++ broadcastText b)
       unfolding shownText
-      text-bracket {address} e = rw (e, is) (memory (operand.Memory own address) refl refl)
+      text-bracket {address} {k} masked e =
+          rw (e, is, masked)
+          (memory (operand.Memory own address k) refl refl
+          ∙ ap (λ (t : List ℕ). frontText label (shownSegment segment own) ++ t)
+          (sym (masked-append address (shownMask mask k second) (broadcastText b))))
 
 -- what a place shows, case by case
 module _ (mode : Mode) (arm : Arm) (i : Instruction) {p : Place} where
@@ -145,14 +167,23 @@ module _ (mode : Mode) (arm : Arm) (i : Instruction) {p : Place} where
   unfolding itemAt
   place-branch e = rw e (text-bare (branchOf mode arm i))
 
+-- operand 1's register does not matter where a place does not show it
+second-shown : (label : Label) (segment : Segment) (short : Bool) (mask : Mask) (second : ℕ) (b : Broadcast) (o : Operand) → operandShown label segment short mask second b o ≡ operandShown label segment short mask (shownMask mask 0 second) b o
+unfolding operandShown
+second-shown label segment short Itself second b o = refl
+second-shown label segment short Second second b o = refl
+
 -- operand k at a place, as the code has it from the body
 pub place-operand :
     (mode : Mode) (arm : Arm) (body : List ℕ) → countOf body ≤ 4 →
-    {p : Place} {k label : ℕ} {segment : Segment} {short : Bool} → p ≡ place.Operand k label segment short →
+    {p : Place} {k label : ℕ} {segment : Segment} {short : Bool} {mask : Mask} {b : Broadcast} → p ≡ place.Operand k label segment short mask b →
+    {second : ℕ} → second ≡ shownMask mask 0 (registerOf (operandAt body 1)) →
     {o : Operand} → o ≡ operandAt body k →
-    itemText (itemAt mode arm (instructionOf body) p) ≡ itemText (operandShown (labelAt label) segment short o)
+    itemText (itemAt mode arm (instructionOf body) p) ≡ itemText (operandShown (labelAt label) segment short mask second b o)
 unfolding itemAt
-place-operand mode arm body few {k = k} e is = rw (e, is, operand-in body few k)
+place-operand mode arm body few {k = k} {label} {segment} {short} {mask} {b} e looked is =
+    rw (e, looked, is, operand-in body few k, operand-in body few 1)
+    (ap itemText (second-shown (labelAt label) segment short mask (registerOf (operandIn (instructionOf body) 1)) b (operandIn (instructionOf body) k)))
 
 -- an operand shows something exactly where it is there
 shows-operand : (short : Bool) (o : Operand) → shows (valueShown short o) ≡ not (isAbsent o)
@@ -166,7 +197,7 @@ shows-operand false (operand.Register kind reg) = refl
 shows-operand short (operand.Imm kind value) = ap shows (unshortened short (operand.Imm kind value) refl)
 shows-operand short (operand.Absolute16 segment address) = ap shows (unshortened short (operand.Absolute16 segment address) refl)
 shows-operand short (operand.Absolute32 segment address) = ap shows (unshortened short (operand.Absolute32 segment address) refl)
-shows-operand short (operand.Memory segment address) = ap shows (unshortened short (operand.Memory segment address) refl)
+shows-operand short (operand.Memory segment address mask) = ap shows (unshortened short (operand.Memory segment address mask) refl)
 
 -- whether a place shows something, case by case
 module _ (mode : Mode) (arm : Arm) (i : Instruction) {p : Place} where
@@ -184,7 +215,7 @@ module _ (mode : Mode) (arm : Arm) (i : Instruction) {p : Place} where
 
 pub shows-stored :
     (mode : Mode) (arm : Arm) (body : List ℕ) → countOf body ≤ 4 →
-    {p : Place} {k label : ℕ} {segment : Segment} {short : Bool} → p ≡ place.Operand k label segment short →
+    {p : Place} {k label : ℕ} {segment : Segment} {short : Bool} {mask : Mask} {b : Broadcast} → p ≡ place.Operand k label segment short mask b →
     shows (itemAt mode arm (instructionOf body) p .shown) ≡ ltb k (countOf body)
 unfolding itemAt operandShown
 shows-stored mode arm body few {k = k} {short = short} e =
@@ -257,10 +288,10 @@ module _ (mode : Mode) (arm : Arm) (i : Instruction) (plan : Plan) where
         items-next k h
         ∙ rw (← there, ← is, sym (Bool·not-not shown) ∙ ap not t) (append-assoc (separatorAt k) (itemText (itemAt mode arm i p)) (itemsFrom (k + 1) (itemsAt mode arm i plan)))
 
--- the line of a body: its head, and its places after it
+-- the line of a body: its head, its places after it, and the tail
 pub line-by :
     (mode : Mode) (arm : Arm) (plan : Plan) (body : List ℕ) {opcode flags : ℕ} →
     opcode ≡ opcodeOf body → flags ≡ flagsOf body →
-    lineText (lineBy mode arm plan (instructionOf body)) ≡ headText (headOf arm opcode flags) ++ itemsText (itemsAt mode arm (instructionOf body) plan)
+    lineText (lineBy mode arm plan (instructionOf body)) ≡ headText (headOf arm opcode flags) ++ (itemsText (itemsAt mode arm (instructionOf body) plan) ++ tailWord (plan .tail))
 unfolding lineText instructionOf
 line-by mode arm plan body o f = rw (o, f)

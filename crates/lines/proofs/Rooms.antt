@@ -6,7 +6,7 @@ use mathlib.Core.List.{List}
 use Prim.Native.Nat.{ℕ, zero, suc, _+_, _*_, _≤_}
 use native.Mathlib.Decide.{decLt}
 use native.Mathlib.Omega.{arith}
-use lib.Dec.{T, ltb, leb, leb→le, lit≤}
+use lib.Dec.{T, eqb, ltb, leb, leb→le, lit≤}
 use lib.ListN.{length}
 use borrow.Author.Tests.{lt-ltb, le-ltb}
 use Rattle.text.specs.Words.{bytes}
@@ -28,29 +28,34 @@ use Rattle.lines.specs.Items.{shownText, itemText}
 use Rattle.lines.specs.Text.{shows, partedText, lineText, lineBy}
 use Rattle.lines.proofs.Places.{place-register, place-branch, shows-nothing, shows-stored}
 use Rattle.lines.proofs.Lengths.{parted-length, items-length, line-length}
-use Rattle.lines.proofs.Short.{register-short, branch-short, item-short, head-short}
+use Rattle.lines.proofs.Short.{register-short, branch-short, item-short, head-short, tail-word-short}
 
--- the operand of a place has at least the number j
+-- the operand of a place has at least the number j; a branch is operand 0
 abbrev pub isFrom : ℕ → Place → Bool
 isFrom j place.Nothing = true
 isFrom j (place.Register reg) = true
-isFrom j place.Branch = true
-isFrom j (place.Operand k label segment short) = leb j k
+isFrom j place.Branch = eqb j 0
+isFrom j (place.Operand k label segment short mask b) = leb j k
 
 -- no place shows an operand with a lower number than its own: so a line shows no more operands than the body stores
 abbrev pub inOrder : Plan → Bool
 inOrder plan = isFrom 0 (plan .a) && (isFrom 1 (plan .b) && (isFrom 2 (plan .c) && isFrom 3 (plan .d)))
 
--- the most that place j takes: an operand, or a branch
+-- the most that place j takes: an operand, or the branch at the first place, or a register at the others
 abbrev share : ℕ → ℕ → ℕ
-share count j = cond (ltb j count) 49 23
+share count j = cond (ltb j count) 63 (cond (eqb j 0) 23 7)
 
-share-least : (b : Bool) → 23 ≤ cond b 49 23
-share-least true = lit≤ tt
-share-least false = lit≤ tt
+register-within : (b c : Bool) → 7 ≤ cond b 63 (cond c 23 7)
+register-within true c = lit≤ tt
+register-within false true = lit≤ tt
+register-within false false = lit≤ tt
 
--- the shares of four places, after the head and before a newline
-shares : (count : ℕ) → count ≤ 4 → 48 + (share count 0 + share count 1 + share count 2 + share count 3) ≤ 9 * (16 + 5 * count)
+branch-within : (b c : Bool) → T c → 23 ≤ cond b 63 (cond c 23 7)
+branch-within true c t = lit≤ tt
+branch-within false true t = lit≤ tt
+
+-- the shares of four places, with the longest head and tail and a newline
+shares : (count : ℕ) → count ≤ 4 → 57 + (share count 0 + share count 1 + share count 2 + share count 3) ≤ 9 * (16 + 5 * count)
 shares zero h = lit≤ tt
 shares (suc zero) h = lit≤ tt
 shares (suc (suc zero)) h = lit≤ tt
@@ -79,7 +84,7 @@ module _ (mode : Mode) (arm : Arm) (body : List ℕ) (few : countOf body ≤ 4) 
   place-within (place.Register reg) t =
       omega (
         arith,
-        share-least (ltb j (countOf body)),
+        register-within (ltb j (countOf body)) (eqb j 0),
         parted-most s (itemAt mode arm (instructionOf body) (place.Register reg)),
         ap length (place-register mode arm (instructionOf body) {p = place.Register reg} refl),
         register-short reg,
@@ -88,14 +93,14 @@ module _ (mode : Mode) (arm : Arm) (body : List ℕ) (few : countOf body ≤ 4) 
   place-within place.Branch t =
       omega (
         arith,
-        share-least (ltb j (countOf body)),
+        branch-within (ltb j (countOf body)) (eqb j 0) t,
         parted-most s (itemAt mode arm (instructionOf body) place.Branch),
         ap length (place-branch mode arm (instructionOf body) {p = place.Branch} refl),
         branch-shown-short mode arm (instructionOf body),
         parts,
       )
-  place-within (place.Operand k label segment short) t =
-      let p = place.Operand k label segment short in
+  place-within (place.Operand k label segment short mask b) t =
+      let p = place.Operand k label segment short mask b in
       let i = itemAt mode arm (instructionOf body) p in
       elim (decLt k (countOf body)) [
         | yes h ↦ rw (lt-ltb j (countOf body) (let l = leb→le j k t in omega arith)) (omega (arith, parted-most s i, item-short i, parts))
@@ -121,5 +126,6 @@ line-within mode arm plan body ordered few =
       place-within mode arm body few (bytes ", ") (lit≤ tt) 1 (plan .b) (both-left (isFrom 1 (plan .b)) (isFrom 2 (plan .c) && isFrom 3 (plan .d)) from-1),
       place-within mode arm body few (bytes ", ") (lit≤ tt) 2 (plan .c) (both-left (isFrom 2 (plan .c)) (isFrom 3 (plan .d)) from-2),
       place-within mode arm body few (bytes ", ") (lit≤ tt) 3 (plan .d) (both-right (isFrom 2 (plan .c)) (isFrom 3 (plan .d)) from-2),
+      tail-word-short (plan .tail),
       shares (countOf body) few,
     )

@@ -1,16 +1,17 @@
--- No operand's text is longer than so; and "No line exceeds 256 bytes."
+-- No operand's text is longer than so; and document 02's "A line may have 320 bytes."
 -- Assumes nothing.
 use mathlib.Core.Bool.{Bool}
-use mathlib.Core.List.{List, _++_}
-use Prim.Native.Nat.{ℕ, _+_, _≤_}
+use mathlib.Core.List.{List, [], _∷_, _++_}
+use Prim.Native.Nat.{ℕ, zero, suc, _+_, _/_, _%_, _≤_}
 use native.Mathlib.Omega.{arith}
 use lib.Dec.{ltb, lit≤}
 use lib.IntN.{ℤ}
 use lib.ListN.{length, length-append}
 use Rattle.text.specs.Choice.{when}
 use Rattle.text.specs.Words.{bytes}
-use Rattle.text.proofs.Choosing.{length-when, cond-most}
+use Rattle.text.proofs.Choosing.{cond-by, length-when, cond-most}
 use Rattle.text.proofs.Tables.{no-longer}
+use Rattle.numerals.specs.Decimals.{decimalWithin}
 use Rattle.numerals.specs.Digits.{digits}
 use Rattle.numerals.specs.Numerals.{displacement}
 use Rattle.numerals.proofs.Places.{length-digits}
@@ -21,19 +22,23 @@ use Rattle.names.specs.Labels.{labels, labelWord}
 use Rattle.operands.specs.declared.Address.{Address}
 use Rattle.operands.specs.declared.BranchWord.{BranchWord}
 use Rattle.operands.specs.declared.BranchWord.the-variants as word
+use Rattle.operands.specs.declared.Broadcast.{Broadcast}
+use Rattle.operands.specs.declared.Broadcast.the-variants as broadcast
 use Rattle.operands.specs.declared.Item.{Item}
 use Rattle.operands.specs.declared.Shown.{Shown}
 use Rattle.operands.specs.declared.Shown.the-variants.{Nothing, Name, St, Number, Word, Dword, Bracket, Branch}
 use Rattle.operands.specs.declared.Label.{Label}
+use Rattle.operands.specs.declared.Tail.{Tail}
+use Rattle.operands.specs.declared.Tail.the-variants as tail
 use Rattle.places.specs.Labels.{labelNumber}
 use Rattle.lines.specs.Fronts.{labelText, segmentText}
-use Rattle.lines.specs.Brackets.{baseText, scaleText, indexedText, indexText, tailText}
-use Rattle.lines.specs.Items.{wordText, branchText, shownText, itemText}
+use Rattle.lines.specs.Brackets.{baseText, scaleText, indexedText, indexText, tailText, maskText}
+use Rattle.lines.specs.Items.{wordText, branchText, shownText, broadcastText, itemText}
 use Rattle.lines.specs.declared.Head.{Head}
 use Rattle.lines.specs.declared.Line.{Line}
 use Rattle.lines.specs.declared.Name.{Name as Mnemonic}
 use Rattle.lines.specs.declared.Name.the-variants.{Opcode, Feni, Fdisi, Fsetpm}
-use Rattle.lines.specs.Text.{prefixesText, nameText, headText, shows, partedText, lineText, longestLine}
+use Rattle.lines.specs.Text.{prefixesText, nameText, headText, shows, partedText, tailWord, lineText, longestLine}
 use Rattle.lines.proofs.Parts.{bracket-length, absolute-length, branch-length, item-length}
 use Rattle.lines.proofs.Lengths.{prefixes-length, head-length, parted-length, items-length, line-length}
 
@@ -116,8 +121,48 @@ shown-short (Bracket a) =
     omega (arith, bracket-length a, base-short (a .based) (a .base), index-short a, tail-short (a .displaced) (a .disp))
 shown-short (Branch w minus size) = omega (arith, branch-short w minus size)
 
-pub item-short : (i : Item) → length (itemText i) ≤ 47
-item-short i = omega (arith, item-length i, label-short (i .label), segment-short (i .segment), shown-short (i .shown))
+-- `{k1}`
+mask-short : (m : ℕ) → length (maskText m) ≤ 7
+unfolding maskText
+mask-short m =
+    omega (
+      arith,
+      when-most (ltb 0 m) (bytes "{" ++ (registerName m ++ bytes "}")),
+      length-append (bytes "{") (registerName m ++ bytes "}"),
+      length-append (registerName m) (bytes "}"),
+      register-short m,
+    )
+
+within-short : (k n : ℕ) → length (decimalWithin k n) ≤ k
+unfolding decimalWithin
+within-short zero n = lit≤ tt
+within-short (suc k) n =
+    cond-by (λ (t : List ℕ). length t ≤ suc k) (ltb n 10) (λ e. omega arith)
+    (λ e. omega (arith, length-append (decimalWithin k (n / 10)) ((48 + n % 10) ∷ []), within-short k (n / 10)))
+
+-- `{1to16}`
+broadcast-short : (b : Broadcast) → length (broadcastText b) ≤ 7
+unfolding broadcastText
+broadcast-short broadcast.None = lit≤ tt
+broadcast-short (broadcast.To n) =
+    omega (
+      arith,
+      length-append (bytes "{1to") (decimalWithin 2 n ++ bytes "}"),
+      length-append (decimalWithin 2 n) (bytes "}"),
+      within-short 2 n,
+    )
+
+pub item-short : (i : Item) → length (itemText i) ≤ 61
+item-short i =
+    omega (
+      arith,
+      item-length i,
+      label-short (i .label),
+      segment-short (i .segment),
+      shown-short (i .shown),
+      mask-short (i .mask),
+      broadcast-short (i .broadcast),
+    )
 
 -- the head
 name-short : (n : Mnemonic) → length (nameText n) ≤ 13
@@ -142,9 +187,19 @@ prefixes-short h =
 pub head-short : (h : Head) → length (headText h) ≤ 47
 head-short h = omega (arith, head-length h, prefixes-short h, name-short (h .name), cond-most (h .suffix) 1)
 
-parted-short : (s : List ℕ) (i : Item) → length (partedText s i) ≤ length s + 47
+parted-short : (s : List ℕ) (i : Item) → length (partedText s i) ≤ length s + 61
 parted-short s i =
     omega (arith, parted-length s i, cond-most (shows (i .shown)) (length s + length (itemText i)), item-short i)
+
+-- ` {rn-sae}`
+pub tail-word-short : (t : Tail) → length (tailWord t) ≤ 9
+unfolding tailWord
+tail-word-short tail.None = lit≤ tt
+tail-word-short tail.Sae = lit≤ tt
+tail-word-short tail.Nearest = lit≤ tt
+tail-word-short tail.Down = lit≤ tt
+tail-word-short tail.Up = lit≤ tt
+tail-word-short tail.Zero = lit≤ tt
 
 pub line-short : (l : Line) → length (lineText l) ≤ longestLine
 line-short l =
@@ -158,4 +213,5 @@ line-short l =
       parted-short (bytes ", ") (is .b),
       parted-short (bytes ", ") (is .c),
       parted-short (bytes ", ") (is .d),
+      tail-word-short (l .tail),
     )

@@ -1,4 +1,4 @@
--- "Bracket: `[base + index * 4 - 8]`".
+-- "Bracket: `[base + index * 4 - 8]`", and document 02's mask after it.
 -- Assumes nothing.
 use mathlib.Core.Bool.{Bool}
 use mathlib.Core.List.{List, _++_}
@@ -34,3 +34,12 @@ tailText displaced disp = when displaced (bytes " " ++ displacement disp) ++ byt
 
 unfoldable pub bracketText : Address → List ℕ
 bracketText a = bytes "[" ++ (baseText (a .based) (a .base) ++ (indexText a ++ tailText (a .displaced) (a .disp)))
+
+-- a mask by its register byte, as `{k1}`; a mask of 0 is not shown
+unfoldable pub maskText : ℕ → List ℕ
+maskText mask = when (ltb 0 mask) (bytes "{" ++ (registerName mask ++ bytes "}"))
+
+-- document 02: a mask is "printed as `{k1}` after the bracket", as `[ebx + esi * 4 - 8]{k1}`; so the twelve memory forms, six without a
+-- mask and six with one, are one text
+unfoldable pub maskedText : Address → ℕ → List ℕ
+maskedText a mask = bracketText a ++ maskText mask

@@ -8,6 +8,8 @@ use Rattle.text.specs.Words.{bytes}
 use Rattle.names.specs.Labels.{labelWord}
 use Rattle.names.specs.Registers.{registerName}
 use Rattle.operands.specs.RegisterBytes.{st0}
+use Rattle.places.specs.declared.Mask.{Mask}
+use Rattle.places.specs.declared.Mask.the-variants.{Itself, Second}
 use Rattle.places.specs.declared.Segment.{Segment}
 use Rattle.places.specs.declared.Segment.the-variants.{Hidden, Shown, UnlessDs}
 use Rattle.places.specs.declared.Place.{Place}
@@ -22,6 +24,11 @@ abbrev pub shownSegment : Segment → ℕ → ℕ
 shownSegment Hidden own = 0
 shownSegment Shown own = own
 shownSegment UnlessDs own = cond (eqb own 4) 0 own
+
+-- the mask that a place shows of one that an operand has and of operand 1's register
+abbrev pub shownMask : Mask → (own second : ℕ) → ℕ
+shownMask Itself own second = own
+shownMask Second own second = second
 
 -- a label, by its number, and a segment
 abbrev pub frontText : ℕ → ℕ → List ℕ

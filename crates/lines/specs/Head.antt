@@ -2,18 +2,14 @@
 -- Assumes nothing.
 use mathlib.Core.Bool.{Bool, cond, not, _&&_, _||_}
 use mathlib.Core.List.{[], _∷_}
-use Prim.Native.Nat.{ℕ, _/_, _%_, _^_}
-use lib.Dec.{eqb}
+use Prim.Native.Nat.{ℕ}
 use Rattle.names.specs.declared.Arm.{Arm}
 use Rattle.names.specs.declared.Arm.the-variants.{Jmpf, Callf, Movs, Cmps, Feni as FeniArm, Fdisi as FdisiArm, Fsetpm as FsetpmArm, Scas, Lods, Incssp, Wrss, Pushf}
 use Rattle.names.specs.Among.{isArm, isOneOf}
+use Rattle.operands.specs.Flags.{bit}
 use Rattle.lines.specs.declared.Head.{Head}
 use Rattle.lines.specs.declared.Name.{Name}
 use Rattle.lines.specs.declared.Name.the-variants.{Opcode, Feni, Fdisi, Fsetpm}
-
--- "bit 0 xacquire, 1 xrelease, 2 lock, 3 rep, 4 repnz, 5 operand size", bit 0 the lowest
-abbrev pub bit : ℕ → ℕ → Bool
-bit k flags = eqb (flags / 2 ^ k % 2) 1
 
 -- "`can_rep`: MOVS CMPS SCAS LODS STOS INS OUTS"
 abbrev pub canRep : Arm → Bool

@@ -1,4 +1,4 @@
--- The text of what a line shows: prefix words, mnemonic and suffix, operands.
+-- The text of what a line shows: prefix words, mnemonic and suffix, operands, tail.
 -- Assumes nothing.
 use mathlib.Core.Bool.{Bool, true, false}
 use mathlib.Core.List.{List, [], _++_}
@@ -10,6 +10,8 @@ use Rattle.operands.specs.declared.Shown.{Shown}
 use Rattle.operands.specs.declared.Shown.the-variants.{Nothing, Name, St, Number, Word, Dword, Bracket, Branch}
 use Rattle.operands.specs.declared.Item.{Item}
 use Rattle.operands.specs.declared.Items.{Items}
+use Rattle.operands.specs.declared.Tail.{Tail}
+use Rattle.operands.specs.declared.Tail.the-variants as tail
 use Rattle.lines.specs.Items.{itemText}
 use Rattle.operands.specs.declared.Instruction.{Instruction}
 use Rattle.branches.specs.declared.Mode.{Mode}
@@ -62,13 +64,24 @@ itemsText is =
     partedText (bytes " ") (is .a)
     ++ (partedText (bytes ", ") (is .b) ++ (partedText (bytes ", ") (is .c) ++ partedText (bytes ", ") (is .d)))
 
+-- document 02's tail after the operands, a blank before it: `{sae}`, or "the Intel manual's rounding word"
+unfoldable pub tailWord : Tail → List ℕ
+tailWord tail.None = []
+tailWord tail.Sae = bytes " {sae}"
+tailWord tail.Nearest = bytes " {rn-sae}"
+tailWord tail.Down = bytes " {rd-sae}"
+tailWord tail.Up = bytes " {ru-sae}"
+tailWord tail.Zero = bytes " {rz-sae}"
+
+-- `vaddpd zmm1, zmm2, qword ptr [ebx]{k1}{1to8}`, `vaddpd zmm1, zmm2, zmm3 {rn-sae}`
 unfoldable pub lineText : Line → List ℕ
-lineText l = headText (l .head) ++ itemsText (l .items)
+lineText l = headText (l .head) ++ (itemsText (l .items) ++ tailWord (l .tail))
 
--- what the line of a plan shows: its head by the arm, opcode and flags, and its operands by the places
+-- what the line of a plan shows: its head by the arm, opcode and flags, its operands by the places, and the plan's tail
 abbrev pub lineBy : Mode → Arm → Plan → Instruction → Line
-lineBy mode arm plan i = record { head = headOf arm (i .opcode) (i .flags); items = itemsAt mode arm i plan }
+lineBy mode arm plan i =
+    record { head = headOf arm (i .opcode) (i .flags); items = itemsAt mode arm i plan; tail = plan .tail }
 
--- the longest line: "No line exceeds 256 bytes"
+-- the longest line: document 02's "A line may have 320 bytes"
 abbrev pub longestLine : ℕ
-longestLine = 256
+longestLine = 320

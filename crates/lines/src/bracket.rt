@@ -1,7 +1,9 @@
-// A bracket: the parts that the operand's kind has, in document 01's order.
-ghost use Rattle.names.specs.Registers.{RegisterTable};
+// A bracket: the parts that the operand's kind has, in document 01's order; and the mask after it.
+ghost use mathlib.Core.List.{_++_};
+ghost use Rattle.names.specs.Registers.{registerName, RegisterTable};
 ghost use Rattle.text.specs.Code.{Room, Put};
-ghost use Rattle.lines.specs.Brackets.{baseText, scaleText, indexedText, indexText, tailText, bracketText};
+ghost use Rattle.text.specs.Words.{bytes};
+ghost use Rattle.lines.specs.Brackets.{baseText, scaleText, indexedText, indexText, tailText, bracketText, maskText, maskedText};
 use names::registers::Letters;
 use names::registers::Starts;
 use operands::Address;
@@ -96,4 +98,44 @@ pub fn put_bracket(
     let next = put_base(buf, next, letters, starts, a.based, a.base);
     let next = put_index(buf, next, letters, starts, a);
     put_tail(buf, next, a.displaced, a.disp)
+}
+
+fn put_braced(buf: &mut [u8], at: usize, letters: &Letters, starts: &Starts, mask: u8) -> usize
+    requires { ⌜ RegisterTable (now letters) (now starts) ⌝ }
+    requires { ⌜ Room (now buf) at (bytes "{" ++ (registerName mask ++ bytes "}")) ⌝ }
+    ensures { λ r. ⌜ Put (now (buf .entry)) at (bytes "{" ++ (registerName mask ++ bytes "}")) r (now (buf .exit)) ⌝ }
+{
+    let next = text::put_byte(buf, at, b'{');
+    let next = names::registers::put_register(buf, next, letters, starts, mask);
+    text::put_byte(buf, next, b'}')
+}
+
+// The mask; most operands have none, and a mask of 0 is not shown.
+pub fn put_mask(buf: &mut [u8], at: usize, letters: &Letters, starts: &Starts, mask: u8) -> usize
+    requires { ⌜ RegisterTable (now letters) (now starts) ⌝ }
+    requires { ⌜ Room (now buf) at (maskText mask) ⌝ }
+    ensures { λ r. ⌜ Put (now (buf .entry)) at (maskText mask) r (now (buf .exit)) ⌝ }
+{
+    if 0 < mask {
+        put_braced(buf, at, letters, starts, mask)
+    } else {
+        at
+    }
+}
+
+// All twelve memory forms: the bracket, and the mask after it.
+pub fn put_masked(
+    buf: &mut [u8],
+    at: usize,
+    letters: &Letters,
+    starts: &Starts,
+    a: Address,
+    mask: u8,
+) -> usize
+    requires { ⌜ RegisterTable (now letters) (now starts) ⌝ }
+    requires { ⌜ Room (now buf) at (maskedText a mask) ⌝ }
+    ensures { λ r. ⌜ Put (now (buf .entry)) at (maskedText a mask) r (now (buf .exit)) ⌝ }
+{
+    let next = put_bracket(buf, at, letters, starts, a);
+    put_mask(buf, next, letters, starts, mask)
 }

@@ -7,7 +7,7 @@ ghost use Rattle.text.specs.Choice.{when};
 ghost use Rattle.text.specs.Words.{bytes};
 ghost use Rattle.text.specs.Code.{Room, Put};
 ghost use Rattle.names.specs.Opcodes.{MnemonicTable};
-ghost use Rattle.lines.specs.Head.{bit, canRep, nameOf, suffixed as isSuffixed, headOf};
+ghost use Rattle.lines.specs.Head.{canRep, nameOf, suffixed as isSuffixed, headOf};
 ghost use Rattle.lines.specs.Text.{prefixesText, repsText, nameText, headText};
 use names::Arm;
 use names::opcodes::Letters;

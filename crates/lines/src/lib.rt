@@ -1,14 +1,16 @@
 // The text of a line and its put. A line is never built: its head is printed from the arm and the flags, its places straight from
 // the record's body.
 pub mod bracket;
+pub mod broadcast;
 pub mod heads;
 pub mod place;
 pub mod print;
 
 use operands::Items;
+use operands::Tail;
 
-// "No line exceeds 256 bytes."
-pub const LONGEST_LINE: usize = 256;
+// Document 02: "A line may have 320 bytes."
+pub const LONGEST_LINE: usize = 320;
 
 // The mnemonic: an opcode's own name, or one of the three words that are no opcode's name.
 pub enum Name {
@@ -33,4 +35,5 @@ pub struct Head {
 pub struct Line {
     pub head: Head,
     pub items: Items,
+    pub tail: Tail,
 }

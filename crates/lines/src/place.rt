@@ -7,26 +7,31 @@ ghost use Rattle.names.specs.Registers.{RegisterTable};
 ghost use Rattle.names.specs.Labels.{LabelTable};
 ghost use Rattle.bodies.specs.Body.{countOf};
 ghost use Rattle.bodies.specs.Code.{Whole};
-ghost use Rattle.bodies.specs.Decoding.{instructionOf};
+ghost use Rattle.bodies.specs.Decoding.{instructionOf, operandAt};
 ghost use Rattle.places.specs.Labels.{labelAt};
 ghost use Rattle.places.specs.Order.{fromTheLeft};
 ghost use Rattle.places.specs.Places.{operandShown, branchOf, itemAt, itemsAt};
 ghost use Rattle.lines.specs.Fronts.{segmentText};
+ghost use Rattle.operands.specs.Parts.{registerOf};
 ghost use Rattle.lines.specs.Items.{absoluteText, signText, wordText, branchText, shownText, itemText};
 ghost use Rattle.lines.specs.Text.{shows, itemsText};
-ghost use Rattle.lines.specs.Code.{shownSegment, frontText, registerText, placeAt, separatorAt};
+ghost use Rattle.lines.specs.Code.{shownSegment, shownMask, frontText, registerText, placeAt, separatorAt};
 use crate::bracket;
+use crate::broadcast;
 use bodies::fields;
 use bodies::kinds::immediate_at;
 use bodies::kinds::immediate_kind_at;
+use bodies::kinds::register_at;
 use bodies::parts::operand_at;
 use branches::Mode;
 use names::Arm;
 use names::labels;
 use names::registers;
 use operands::BranchWord;
+use operands::Broadcast;
 use operands::Operand;
 use operands::Shown;
+use places::Mask;
 use places::Place;
 use places::Plan;
 use places::Segment;
@@ -111,6 +116,27 @@ fn shown_segment(segment: Segment, own: u8) -> u8
     }
 }
 
+// The mask that a place shows of one that an operand has and of operand 1's register.
+fn shown_mask(mask: Mask, own: u8, second: u8) -> u8
+    ensures { λ r. ⌜ r ≡ shownMask mask own second ⌝ }
+{
+    match mask {
+        Mask::Itself => own,
+        Mask::Second => second,
+    }
+}
+
+// Operand 1's register, where a place shows it as the mask, and 0 where it does not.
+fn second_at(body: &[u8], mask: Mask) -> u8
+    requires { ⌜ Whole (now body) ⌝ }
+    ensures { λ r. ⌜ r ≡ shownMask mask 0 (registerOf (operandAt (now (body .entry)) 1)) ⌝ }
+{
+    match mask {
+        Mask::Itself => 0,
+        Mask::Second => register_at(body, 1),
+    }
+}
+
 fn put_segment(buf: &mut [u8], at: usize, segment: u8) -> usize
     requires { ⌜ Room (now buf) at (segmentText segment) ⌝ }
     ensures { λ r. ⌜ Put (now (buf .entry)) at (segmentText segment) r (now (buf .exit)) ⌝ }
@@ -169,12 +195,15 @@ fn put_operand(
     label: u8,
     segment: Segment,
     short: bool,
+    mask: Mask,
+    second: u8,
+    broadcast: Broadcast,
     o: Operand,
 ) -> usize
     requires { ⌜ RegisterTable (now «register_letters») (now «register_starts») ⌝ }
     requires { ⌜ LabelTable (now «label_letters») (now «label_starts») ⌝ }
-    requires { ⌜ Room (now buf) at (itemText (operandShown (labelAt label) segment short o)) ⌝ }
-    ensures { λ r. ⌜ Put (now (buf .entry)) at (itemText (operandShown (labelAt label) segment short o)) r (now (buf .exit)) ⌝ }
+    requires { ⌜ Room (now buf) at (itemText (operandShown (labelAt label) segment short mask second broadcast o)) ⌝ }
+    ensures { λ r. ⌜ Put (now (buf .entry)) at (itemText (operandShown (labelAt label) segment short mask second broadcast o)) r (now (buf .exit)) ⌝ }
 {
     match o {
         Operand::Absent => at,
@@ -199,7 +228,15 @@ fn put_operand(
                 label,
                 shown_segment(segment, own),
             );
-            put_word(buf, next, address)
+            let next = put_word(buf, next, address);
+            let next = bracket::put_mask(
+                buf,
+                next,
+                register_letters,
+                register_starts,
+                shown_mask(mask, 0, second),
+            );
+            broadcast::put_broadcast(buf, next, broadcast)
         }
         Operand::Absolute32 {
             segment: own,
@@ -213,11 +250,20 @@ fn put_operand(
                 label,
                 shown_segment(segment, own),
             );
-            put_dword(buf, next, address)
+            let next = put_dword(buf, next, address);
+            let next = bracket::put_mask(
+                buf,
+                next,
+                register_letters,
+                register_starts,
+                shown_mask(mask, 0, second),
+            );
+            broadcast::put_broadcast(buf, next, broadcast)
         }
         Operand::Memory {
             segment: own,
             address,
+            mask: own_mask,
         } => {
             let next = put_front(
                 buf,
@@ -227,7 +273,15 @@ fn put_operand(
                 label,
                 shown_segment(segment, own),
             );
-            bracket::put_bracket(buf, next, register_letters, register_starts, address)
+            let next = bracket::put_masked(
+                buf,
+                next,
+                register_letters,
+                register_starts,
+                address,
+                shown_mask(mask, own_mask, second),
+            );
+            broadcast::put_broadcast(buf, next, broadcast)
         }
     }
 }
@@ -267,6 +321,8 @@ fn put_place(
             label,
             segment,
             short,
+            mask,
+            broadcast,
         } => put_operand(
             buf,
             at,
@@ -277,6 +333,9 @@ fn put_place(
             label,
             segment,
             short,
+            mask,
+            second_at(body, mask),
+            broadcast,
             operand_at(body, k),
         ),
     }
@@ -297,6 +356,8 @@ fn shows_something(body: &[u8], place: Place) -> bool
             label: _,
             segment: _,
             short: _,
+            mask: _,
+            broadcast: _,
         } => k < fields::count(body),
     }
 }

@@ -11,7 +11,7 @@ ghost use Rattle.bodies.specs.Code.{Whole};
 ghost use Rattle.bodies.specs.Decoding.{instructionOf};
 ghost use Rattle.places.specs.Order.{fromTheLeft};
 ghost use Rattle.places.specs.Places.{itemsAt};
-ghost use Rattle.lines.specs.Text.{lineBy, lineText};
+ghost use Rattle.lines.specs.Text.{tailWord, lineBy, lineText};
 use crate::heads;
 use crate::place;
 use bodies::fields;
@@ -20,7 +20,23 @@ use names::Arm;
 use names::labels;
 use names::opcodes;
 use names::registers;
+use operands::Tail;
 use places::Plan;
+
+// What ends the line; most lines have no tail.
+fn put_tail_word(buf: &mut [u8], at: usize, tail: Tail) -> usize
+    requires { ⌜ Room (now buf) at (tailWord tail) ⌝ }
+    ensures { λ r. ⌜ Put (now (buf .entry)) at (tailWord tail) r (now (buf .exit)) ⌝ }
+{
+    match tail {
+        Tail::None => at,
+        Tail::Sae => text::put_bytes(buf, at, b" {sae}"),
+        Tail::Nearest => text::put_bytes(buf, at, b" {rn-sae}"),
+        Tail::Down => text::put_bytes(buf, at, b" {rd-sae}"),
+        Tail::Up => text::put_bytes(buf, at, b" {ru-sae}"),
+        Tail::Zero => text::put_bytes(buf, at, b" {rz-sae}"),
+    }
+}
 
 pub fn put_line(
     buf: &mut [u8],
@@ -48,7 +64,7 @@ pub fn put_line(
     let opcode = fields::opcode(body);
     let flags = fields::flags(body);
     let next = heads::put_head(buf, at, name_letters, name_starts, arm, opcode, flags);
-    place::put_places(
+    let next = place::put_places(
         buf,
         next,
         register_letters,
@@ -59,5 +75,7 @@ pub fn put_line(
         mode,
         arm,
         plan,
-    )
+    );
+    let tail = plan.tail;
+    put_tail_word(buf, next, tail)
 }

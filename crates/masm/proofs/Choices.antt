@@ -10,13 +10,13 @@ use lib.Dec.{eqb}
 use Rattle.masm.specs.Tokens.{bytes}
 use Rattle.masm.specs.Expressions.{Register}
 use Rattle.masm.specs.Operands.{Dword, timesIn, register, immediate, branch, address}
-use Rattle.masm.specs.Lines.{refused, read}
+use Rattle.masm.specs.Lines.{Sae, shows, refused, read}
 use Rattle.masm.proofs.Examples.{says, AllRead}
 
 -- ---- Read otherwise
 
 -- MASM takes both for an immediate
-a-lone-number-in-a-bracket : AllRead ("inc dword ptr [0ABCDh]" ∷ "inc dword ptr 0ABCDh[0]" ∷ []) (says "inc" (address (some Dword) none (timesIn []) 43981 ∷ []))
+a-lone-number-in-a-bracket : AllRead ("inc dword ptr [0ABCDh]" ∷ "inc dword ptr 0ABCDh[0]" ∷ []) (says "inc" (address (some Dword) none (timesIn []) 43981 none none ∷ []))
 unfolding read
 a-lone-number-in-a-bracket = refl
 
@@ -24,7 +24,7 @@ a-lone-number-in-a-bracket = refl
 either-order : read 0 (bytes "lea eax, [ecx + edx]") ≡ read 0 (bytes "lea eax, [edx + ecx]")
 unfolding read
 either-order =
-    ap (λ (times : Register → ℕ). says "lea" (register 0 ∷ address none none times 0 ∷ []))
+    ap (λ (times : Register → ℕ). says "lea" (register 0 ∷ address none none times 0 none none ∷ []))
     (fun-ext (λ r. swapped (cond (eqb r 1) 1 0) (cond (eqb r 2) 1 0)))
   where
     swapped : (a b : ℕ) → a + (b + 0) ≡ b + (a + 0)
@@ -32,15 +32,15 @@ either-order =
 
 -- ---- Read, though MASM refuses it
 
-any-multiple : read 0 (bytes "inc [esp * 3 + ax]") ≡ says "inc" (address none none (timesIn ((4, 3) ∷ (8, 1) ∷ [])) 0 ∷ [])
+any-multiple : read 0 (bytes "inc [esp * 3 + ax]") ≡ says "inc" (address none none (timesIn ((4, 3) ∷ (8, 1) ∷ [])) 0 none none ∷ [])
 unfolding read
 any-multiple = refl
 
-a-sign-before-a-register : read 0 (bytes "inc [+eax]") ≡ says "inc" (address none none (timesIn ((0, 1) ∷ [])) 0 ∷ [])
+a-sign-before-a-register : read 0 (bytes "inc [+eax]") ≡ says "inc" (address none none (timesIn ((0, 1) ∷ [])) 0 none none ∷ [])
 unfolding read
 a-sign-before-a-register = refl
 
-a-product-with-a-sum : read 0 (bytes "inc [2 * (eax + 4)]") ≡ says "inc" (address none none (timesIn ((0, 2) ∷ [])) 8 ∷ [])
+a-product-with-a-sum : read 0 (bytes "inc [2 * (eax + 4)]") ≡ says "inc" (address none none (timesIn ((0, 2) ∷ [])) 8 none none ∷ [])
 unfolding read
 a-product-with-a-sum = refl
 
@@ -56,6 +56,12 @@ a-target-anywhere = refl
 any-width : read 0 (bytes "call short $ + 1000h") ≡ says "call" (branch (some 8) 4096 ∷ [])
 unfolding read
 any-width = refl
+
+-- k0 masks nothing, `inc` has neither mask nor broadcast, and there is no broadcast to five
+any-decoration : read 0 (bytes "inc [eax]{k0}{1to5} {sae}")
+    ≡ shows (record { prefixes = []; mnemonic = bytes "inc"; operands = address none none (timesIn ((0, 1) ∷ [])) 0 (some 72) (some 5) ∷ []; tail = some Sae })
+unfolding read
+any-decoration = refl
 
 sums-wrap : read 0 (bytes "push 0FFFFFFFFh + 2") ≡ says "push" (immediate 1 ∷ [])
 unfolding read
@@ -75,6 +81,11 @@ not-known :
     refused
 unfolding read
 not-known = refl
+
+-- a mask after a register, and `{z}`, by which what is masked becomes 0
+a-mask-after-a-register : AllRead ("vaddpd zmm1{k1}, zmm2, zmm3" ∷ "vaddpd zmm1{k1}{z}, zmm2, zmm3" ∷ "vcmppd k1{k2}, zmm2, zmm3, 5" ∷ []) refused
+unfolding read
+a-mask-after-a-register = refl
 
 -- asmc heeds `short` wherever it stands, and else the first of the two
 two-words-before-a-target : AllRead ("jmp short near ptr $+5" ∷ "jmp near ptr short $+5" ∷ "jmp short short $+5" ∷ "jmp near ptr near ptr $+5" ∷ "jmp dword ptr short $" ∷ "jmp dword ptr near ptr $" ∷ "jmp near ptr dword ptr $" ∷ []) refused

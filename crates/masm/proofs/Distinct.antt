@@ -6,8 +6,8 @@ use Prim.Native.Nat.{ℕ}
 use lib.Dec.{T, eqb}
 use Rattle.masm.specs.Tokens.{sameList, sameToken}
 use Rattle.masm.specs.Expressions.{registers}
-use Rattle.masm.specs.Operands.{Label, Byte, Word, Dword, Fword, Qword, Mmword, Tbyte, Xmmword, Ymmword, Zmmword, widths, labels, synonyms, segments}
-use Rattle.masm.specs.Lines.{prefixWords}
+use Rattle.masm.specs.Operands.{Label, Byte, Word, Dword, Fword, Qword, Mmword, Tbyte, Xmmword, Ymmword, Zmmword, widths, labels, synonyms, segments, masks}
+use Rattle.masm.specs.Lines.{prefixWords, Tail, Sae, Nearest, Down, Up, Zero, tails}
 
 abbrev holds : {A : Type 0} → (A → A → Bool) → A → List A → Bool
 holds eq x [] = false
@@ -34,6 +34,10 @@ no-two-widths : T (distinct eqb (map (λ e. e .1) widths))
 unfolding widths
 no-two-widths = tt
 
+no-two-masks : T (distinct eqb (map (λ e. e .1) masks))
+unfolding masks
+no-two-masks = tt
+
 abbrev number : Label → ℕ
 number Byte = 0
 number Word = 1
@@ -50,6 +54,17 @@ no-two-labels : T (distinct eqb (map (λ e. number (e .1)) labels))
 unfolding labels
 no-two-labels = tt
 
+abbrev tailNumber : Tail → ℕ
+tailNumber Sae = 0
+tailNumber Nearest = 1
+tailNumber Down = 2
+tailNumber Up = 3
+tailNumber Zero = 4
+
+no-two-tails : T (distinct eqb (map (λ e. tailNumber (e .1)) tails))
+unfolding tails
+no-two-tails = tt
+
 -- and no name stands twice in a table, so that none is read in two ways
 no-name-twice :
     T (
@@ -58,6 +73,8 @@ no-name-twice :
     && distinct (sameList sameToken) (map (λ e. e .0) widths)
     && distinct (sameList sameToken) (map (λ e. e .0) (labels ++ synonyms))
     && distinct (sameList sameToken) (map (λ e. e .0) prefixWords)
+    && distinct (sameList sameToken) (map (λ e. e .0) masks)
+    && distinct (sameList sameToken) (map (λ e. e .0) tails)
     )
-unfolding registers segments widths labels synonyms prefixWords
+unfolding registers segments widths labels synonyms prefixWords masks tails
 no-name-twice = tt

@@ -1,21 +1,21 @@
 -- Worked examples from MASM's rules on numbers, expressions, addresses and lines, each by computation. Many are lines that no printer of
 -- ours prints. Our own choices, where MASM reads otherwise or refuses, stand apart in Choices.antt.
--- Registers by number: 0 eax, 1 ecx, 2 edx, 3 ebx, 6 esi, 7 edi, 24 es, 28 fs, 32 st(0), 35 st(3).
+-- Registers by number: 0 eax, 1 ecx, 2 edx, 3 ebx, 6 esi, 7 edi, 24 es, 28 fs, 32 st(0), 35 st(3), 65 zmm1, 66 zmm2, 72 k0, 73 k1.
 use mathlib.Core.Path.{_≡_, refl, ap, fun-ext}
 use mathlib.Core.Bool.{Bool, true, false, cond}
 use mathlib.Core.List.{List, [], _∷_, map}
-use mathlib.Core.Option.{none, some}
+use mathlib.Core.Option.{Option, none, some}
 use Prim.Native.Nat.{ℕ, _+_, _-_, _%_, _^_}
 use Prim.Native.String.{String}
 use lib.Dec.{eqb}
 use Rattle.masm.specs.Tokens.{bytes}
 use Rattle.masm.specs.Expressions.{Register}
-use Rattle.masm.specs.Operands.{Byte, Dword, Tbyte, timesIn, Operand, register, immediate, branch, address}
-use Rattle.masm.specs.Lines.{Rep, Reading, shows, no-instruction, refused, read}
+use Rattle.masm.specs.Operands.{Label, Byte, Dword, Qword, Tbyte, timesIn, Operand, register, immediate, branch, address}
+use Rattle.masm.specs.Lines.{Rep, Sae, Nearest, Down, Up, Zero, Reading, shows, no-instruction, refused, read}
 
--- a mnemonic and operands, with no prefix words
+-- a mnemonic and operands, with no prefix words and no tail
 abbrev pub says : String → List Operand → Reading
-says name os = shows (record { prefixes = []; mnemonic = bytes name; operands = os })
+says name os = shows (record { prefixes = []; mnemonic = bytes name; operands = os; tail = none })
 
 -- these lines are all read so
 abbrev pub AllRead : List String → Reading → Type 0
@@ -84,29 +84,29 @@ one-address :
     "lea eax, [ebx + esi * 4 + 8]" ∷ "lea eax, [ebx][esi*4][8]" ∷ "lea eax, 8[ebx][4*esi]" ∷ "lea eax, [ebx+esi*(8-4)]+2*4" ∷ "lea eax, [ebx - (8 - 16)][esi*4]"
     ∷ "lea eax, 10[ebx + esi*4] - 2" ∷ "lea eax, [ebx] + [esi * 4] + 8" ∷ "lea eax, [(ebx) + 4 * esi + 0Ah - 2]" ∷ "lea eax, [ebx + esi*2(2) + 8]" ∷ []
     )
-    (says "lea" (register 0 ∷ address none none (timesIn ((3, 1) ∷ (6, 4) ∷ [])) 8 ∷ []))
+    (says "lea" (register 0 ∷ address none none (timesIn ((3, 1) ∷ (6, 4) ∷ [])) 8 none none ∷ []))
 unfolding read
 one-address = refl
 
 least-displacement : read 0 (bytes "mov eax, dword ptr [eax - 80000000h]")
-    ≡ says "mov" (register 0 ∷ address (some Dword) none (timesIn ((0, 1) ∷ [])) (2 ^ 31) ∷ [])
+    ≡ says "mov" (register 0 ∷ address (some Dword) none (timesIn ((0, 1) ∷ [])) (2 ^ 31) none none ∷ [])
 unfolding read
 least-displacement = refl
 
 -- a register that stands twice counts twice
-doubled : read 0 (bytes "lea eax, [ecx + ecx]") ≡ says "lea" (register 0 ∷ address none none (timesIn ((1, 2) ∷ [])) 0 ∷ [])
+doubled : read 0 (bytes "lea eax, [ecx + ecx]") ≡ says "lea" (register 0 ∷ address none none (timesIn ((1, 2) ∷ [])) 0 none none ∷ [])
 unfolding read
-doubled = ap (λ (times : Register → ℕ). says "lea" (register 0 ∷ address none none times 0 ∷ [])) (fun-ext (λ r. twice (eqb r 1)))
+doubled = ap (λ (times : Register → ℕ). says "lea" (register 0 ∷ address none none times 0 none none ∷ [])) (fun-ext (λ r. twice (eqb r 1)))
   where
     twice : (b : Bool) → cond b 1 0 + (cond b 1 0 + 0) ≡ cond b 2 0 + 0
     twice true = refl
     twice false = refl
 
-a-segment-makes-memory : AllRead ("inc dword ptr fs:0" ∷ "inc dword ptr fs:[0]" ∷ "inc sdword ptr FS : (8 - 8)" ∷ "inc real4 ptr fs:[4] - 4" ∷ []) (says "inc" (address (some Dword) (some 28) (timesIn []) 0 ∷ []))
+a-segment-makes-memory : AllRead ("inc dword ptr fs:0" ∷ "inc dword ptr fs:[0]" ∷ "inc sdword ptr FS : (8 - 8)" ∷ "inc real4 ptr fs:[4] - 4" ∷ []) (says "inc" (address (some Dword) (some 28) (timesIn []) 0 none none ∷ []))
 unfolding read
 a-segment-makes-memory = refl
 
-type-words : AllRead ("fld tbyte ptr [ecx]" ∷ "fld real10 ptr [ecx]" ∷ []) (says "fld" (address (some Tbyte) none (timesIn ((1, 1) ∷ [])) 0 ∷ []))
+type-words : AllRead ("fld tbyte ptr [ecx]" ∷ "fld real10 ptr [ecx]" ∷ []) (says "fld" (address (some Tbyte) none (timesIn ((1, 1) ∷ [])) 0 none none ∷ []))
 unfolding read
 type-words = refl
 
@@ -114,6 +114,72 @@ type-words = refl
 no-address : AllRead ("lea edx, [eax - ecx]" ∷ "lea edx, [-eax]" ∷ "lea edx, -8[eax]" ∷ "lea edx, [eax * ecx]" ∷ "lea edx, eax + 1" ∷ "mov edx, fs:eax" ∷ "lea edx, eax[8]" ∷ "lea edx, [ecx" ∷ "inc dword [ecx]" ∷ []) refused
 unfolding read
 no-address = refl
+
+-- ---- Masks, broadcasts and tails
+
+mask-registers : read 0 (bytes "kmovd eax, k1") ≡ says "kmovd" (register 0 ∷ register 73 ∷ [])
+unfolding read
+mask-registers = refl
+
+-- `[eax]` with a mask and a broadcast
+abbrev decoratedEax : Option Label → Option Register → Option ℕ → Operand
+decoratedEax label mask copied = address label none (timesIn ((0, 1) ∷ [])) 0 mask copied
+
+a-mask : AllRead ("vmovapd [eax]{k1}, zmm2" ∷ "VMOVAPD [EAX] {K1} , ZMM2" ∷ "vmovapd [eax]{ k1 }, zmm2" ∷ []) (says "vmovapd" (decoratedEax none (some 73) none ∷ register 66 ∷ []))
+unfolding read
+a-mask = refl
+
+masks-in-order : map (λ s. read 0 (bytes s)) ("f [eax]{k0}" ∷ "f [eax]{k1}" ∷ "f [eax]{k2}" ∷ "f [eax]{k3}" ∷ "f [eax]{k4}" ∷ "f [eax]{k5}" ∷ "f [eax]{k6}" ∷ "f [eax]{k7}" ∷ [])
+    ≡ map (λ k. says "f" (decoratedEax none (some k) none ∷ [])) (72 ∷ 73 ∷ 74 ∷ 75 ∷ 76 ∷ 77 ∷ 78 ∷ 79 ∷ [])
+unfolding read
+masks-in-order = refl
+
+a-mask-after-a-segment : AllRead ("f fs:[8]{k1}" ∷ "f fs:8{k1}" ∷ []) (says "f" (address none (some 28) (timesIn []) 8 (some 73) none ∷ []))
+unfolding read
+a-mask-after-a-segment = refl
+
+a-broadcast : AllRead ("vaddpd zmm1, zmm2, qword ptr [eax]{1to8}" ∷ "VADDPD ZMM1, ZMM2, QWORD PTR [EAX] {1TO08}" ∷ []) (says "vaddpd" (register 65 ∷ register 66 ∷ decoratedEax (some Qword) none (some 8) ∷ []))
+unfolding read
+a-broadcast = refl
+
+broadcasts : map (λ s. read 0 (bytes s)) ("f [eax]{1to0}" ∷ "f [eax]{1to5}" ∷ "f [eax]{1to16}" ∷ "f [eax]{1to64}" ∷ "f [eax]{1to4294967295}" ∷ [])
+    ≡ map (λ n. says "f" (decoratedEax none none (some n) ∷ [])) (0 ∷ 5 ∷ 16 ∷ 64 ∷ 4294967295 ∷ [])
+unfolding read
+broadcasts = refl
+
+a-mask-and-a-broadcast : read 0 (bytes "vfpclassps k1, dword ptr [eax]{k2}{1to16}, 5")
+    ≡ says "vfpclassps" (register 73 ∷ decoratedEax (some Dword) (some 74) (some 16) ∷ immediate 5 ∷ [])
+unfolding read
+a-mask-and-a-broadcast = refl
+
+tails-in-order : map (λ s. read 0 (bytes s)) ("f zmm1 {sae}" ∷ "f zmm1 {rn-sae}" ∷ "f zmm1 {rd-sae}" ∷ "f zmm1 {ru-sae}" ∷ "f zmm1 {rz-sae}" ∷ [])
+    ≡ map (λ t. shows (record { prefixes = []; mnemonic = bytes "f"; operands = register 65 ∷ []; tail = some t })) (Sae ∷ Nearest ∷ Down ∷ Up ∷ Zero ∷ [])
+unfolding read
+tails-in-order = refl
+
+a-tail : AllRead ("vaddpd zmm1, [eax]{k1}{1to8} {ru-sae}" ∷ "VADDPD ZMM1,[EAX]{K1}{1TO8}{RU-SAE}" ∷ "vaddpd zmm1, [eax] {k1} {1to8} { ru - sae } ; {sae}" ∷ [])
+    (shows (record { prefixes = []; mnemonic = bytes "vaddpd"; operands = register 65 ∷ decoratedEax none (some 73) (some 8) ∷ []; tail = some Up }))
+unfolding read
+a-tail = refl
+
+-- a mask and a broadcast stand after an address, and a tail after the last operand
+misplaced : AllRead (
+    "f zmm1{k1}, [eax]" ∷ "f zmm1{1to8}" ∷ "f 5{k1}" ∷ "f 5{1to8}" ∷ "f $+5{k1}" ∷ "f short $+5{1to8}" ∷ "f [eax]{k1}{k2}" ∷ "f [eax]{1to8}{1to8}" ∷ "f [eax]{1to8}{k1}"
+    ∷ "f zmm1 {sae}, zmm2" ∷ "f {sae}" ∷ "f zmm1, {sae}" ∷ "f {sae} zmm1" ∷ "f zmm1 {sae} {sae}" ∷ "f zmm1 {sae} zmm2" ∷ "f zmm1 {sae} + 5" ∷ "f [eax] {sae} {k1}" ∷ "{sae} f zmm1"
+    ∷ "f {k1}" ∷ "f {k1}[eax]" ∷ "f [eax]{k1}[ecx]" ∷ "f [eax]{k1} + 8" ∷ "f [eax{k1}]" ∷ "f fs{k1}:[eax]" ∷ "f{k1} [eax]" ∷ []
+    )
+    refused
+unfolding read
+misplaced = refl
+
+no-decoration : AllRead (
+    "f [eax]{1to}" ∷ "f [eax]{1to0x4}" ∷ "f [eax]{1to8h}" ∷ "f [eax]{1to 8}" ∷ "f [eax]{1to-8}" ∷ "f [eax]{1to4294967296}" ∷ "f [eax]{2to8}" ∷ "f [eax]{8}" ∷ "f [eax]{to8}"
+    ∷ "f [eax]{k8}" ∷ "f [eax]{k01}" ∷ "f [eax]{k}" ∷ "f [eax]{eax}" ∷ "f [eax]{}" ∷ "f [eax]{k1, k2}" ∷ "f [eax]{k1" ∷ "f [eax]{1to8" ∷ "f [eax]k1}" ∷ "f [eax]{{k1}}" ∷ "f [eax][k1}" ∷ "f [eax](k1)"
+    ∷ "f zmm1 {sae" ∷ "f zmm1 sae}" ∷ "f zmm1 {rn}" ∷ "f zmm1 {rn sae}" ∷ "f zmm1 {rnsae}" ∷ "f zmm1 {r-sae}" ∷ "f zmm1 {}" ∷ []
+    )
+    refused
+unfolding read
+no-decoration = refl
 
 -- ---- Branches
 
@@ -170,7 +236,8 @@ prefix-and-labels : read 0 (bytes "rep movs byte ptr es:[edi], byte ptr [esi]")
     ≡ shows (record {
       prefixes = Rep ∷ [];
       mnemonic = bytes "movs";
-      operands = address (some Byte) (some 24) (timesIn ((7, 1) ∷ [])) 0 ∷ address (some Byte) none (timesIn ((6, 1) ∷ [])) 0 ∷ [];
+      operands = address (some Byte) (some 24) (timesIn ((7, 1) ∷ [])) 0 none none ∷ address (some Byte) none (timesIn ((6, 1) ∷ [])) 0 none none ∷ [];
+      tail = none;
     })
 unfolding read
 prefix-and-labels = refl

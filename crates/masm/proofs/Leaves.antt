@@ -1,18 +1,19 @@
 -- Single names and numbers, read by a test that computes: for a table of them the test is made once for all entries.
 use mathlib.Core.Path.{_≡_, refl, ap, ap₂}
 use mathlib.Core.Bool.{Bool, true, false, not, _&&_}
-use mathlib.Core.List.{List, [], _∷_, _++_}
+use mathlib.Core.List.{List, [], _∷_, _++_, map}
 use mathlib.Core.Option.{Option, none, some}
 use Prim.Native.Nat.{ℕ, _+_}
 use lib.Dec.{T, eqb, eqb→eq}
 use lib.Ieee.Bits.{is-false}
-use Rattle.masm.specs.Tokens.{bytes, isDigit, isLetter, Token, word, sign, tokens, sameList, sameToken, lookup}
-use Rattle.masm.specs.Expressions.{begins, numeral, registers, Register}
+use Rattle.masm.specs.Tokens.{bytes, isDigit, isLetter, isWord, small, Token, word, sign, tokens, sameList, sameToken, lookup}
+use Rattle.masm.specs.Expressions.{begins, numeral, decimal, registers, Register}
 use Rattle.masm.specs.Operands.{widths, Label, labels, synonyms, segments, Operand, register, immediate, branch, address, typed, operand}
 use Rattle.masm.specs.Lines.{prefixWords}
-use Rattle.masm.proofs.Tokens.{both, apart, leads-apart, plain}
+use Rattle.masm.proofs.Tokens.{both, all, apart, leads-apart, plain}
 use Rattle.masm.proofs.Numerals.{NumberText}
 use Rattle.masm.proofs.Expressions.{RegisterText}
+use Rattle.masm.proofs.Decorations.{DecimalText}
 use Rattle.masm.proofs.Texts.{RegisterOperandText, Untyped, Segmented, SegmentText, LabelText, MnemonicText}
 
 abbrev answers : Option ℕ → ℕ → Bool
@@ -62,6 +63,16 @@ number-text {n} {u} h =
     let (x, y) = both (begins isDigit u) (answers (numeral u) n) b in
     record { spelling = u; one-token = same-tokens (tokens u) (word u ∷ []) a; digit = x; value = answered (numeral u) n y }
 
+-- `u` is the digits of the number `n`, as they stand in `{1to16}`
+unfoldable pub isDecimal : ℕ → List ℕ → Bool
+isDecimal n u = all isWord u && answers (decimal (map small u)) n
+
+pub decimal-text : {n : ℕ} {u : List ℕ} → T (isDecimal n u) → DecimalText n u
+unfolding isDecimal
+decimal-text {n} {u} h =
+    let (a, b) = both (all isWord u) (answers (decimal (map small u)) n) h in
+    record { word-letters = a; value = answered (decimal (map small u)) n b }
+
 -- `u` is one word, which names the register `r` in a bracket
 unfoldable pub isInside : Register → List ℕ → Bool
 isInside r u =
@@ -87,14 +98,14 @@ isRegister none r = false
 isRegister (some (register s)) r = eqb s r
 isRegister (some (immediate n)) r = false
 isRegister (some (branch w n)) r = false
-isRegister (some (address l s t d)) r = false
+isRegister (some (address l s t d m b)) r = false
 
 is-register : (o : Option Operand) (r : Register) → T (isRegister o r) → o ≡ some (register r)
 is-register none r h = absurd h
 is-register (some (register s)) r h = ap (λ t. some (register t)) (eqb→eq s r h)
 is-register (some (immediate n)) r h = absurd h
 is-register (some (branch w n)) r h = absurd h
-is-register (some (address l s t d)) r h = absurd h
+is-register (some (address l s t d m b)) r h = absurd h
 
 unfoldable pub isAlone : (start : ℕ) → Register → List ℕ → Bool
 isAlone start r u = plain (tokens u) && isRegister (operand start (tokens u)) r

@@ -8,5 +8,7 @@ pub mod Tokens
 pub mod Comments
 pub mod Numerals
 pub mod Expressions
+pub mod Decorations
+pub mod Digits
 pub mod Texts
 pub mod Leaves

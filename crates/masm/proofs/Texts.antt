@@ -1,95 +1,70 @@
 -- How operands and lines are read whose texts are put together from parts: each part carries its reading, and each law joins them.
-use mathlib.Core.Path.{_≡_, refl, ap}
-use mathlib.Core.Bool.{Bool, true, false, cond, not, _&&_, _||_}
-use mathlib.Core.List.{List, [], _∷_, _++_}
+use mathlib.Core.Path.{_≡_, refl, ap, sym, _∙_}
+use mathlib.Core.Bool.{Bool, true, false, cond, _||_}
+use mathlib.Core.List.{List, [], _∷_, _++_, append-nil}
 use mathlib.Core.Option.{Option, none, some, Option·map, Option·none-ne-some}
 use Prim.Native.Nat.{ℕ, _+_, _%_, _^_}
-use lib.Dec.{T, T-not, not-T, eqb, eqb→eq}
-use lib.Ieee.Bits.{is-true, is-false}
+use lib.Dec.{T}
+use lib.Ieee.Bits.{is-true}
 use lib.IntN.{pos, negℤ, _+ℤ_, +ℤ-idl}
-use Rattle.masm.specs.Tokens.{bytes, isDigit, isLetter, Token, word, sign, tokens, sameList, sameToken, parts, Table, lookup, after, front, isSaid, each, _>>=_}
+use Rattle.masm.specs.Tokens.{bytes, isLetter, Token, word, sign, tokens, parts, lookup, back, isSaid, each, _>>=_}
 use Rattle.masm.specs.Expressions.{begins, Register, registers, Value, zero, expression}
 use Rattle.masm.specs.Operands.{Width, widths, Label, labels, synonyms, segments, timesIn, wrapped}
-use Rattle.masm.specs.Operands.{Operand, register, immediate, branch, address, addressOf, plainOf, typed, operand}
-use Rattle.masm.specs.Lines.{Prefix, prefixWords, Line, prefixed, operandsOf, instruction, line, shows, readTokens, read}
-use Rattle.masm.proofs.Tokens.{both, Leads, quiet, quiet-append, plain, plain-append, no-comma, plain-quiet, quiet-uncommented, unbroken, quiet-unbroken, one-part, part-before-comma, tokens-append, blank-between, comma-between}
+use Rattle.masm.specs.Operands.{Operand, register, immediate, branch, address, addressOf, plainOf, typed, operand, masks, copies, decorated}
+use Rattle.masm.specs.Lines.{Prefix, prefixWords, Tail, tails, Line, prefixed, operandsOf, instruction, line, shows, readTokens, read}
+use Rattle.masm.proofs.Tokens.{Leads, follows-append, quiet, quiet-append, plain, plain-append, no-brace, plain-whole, whole, whole-append, no-comma, whole-quiet, quiet-uncommented, unbroken, quiet-unbroken, one-part, part-before-comma, tokens-append, blank-between, comma-between}
 use Rattle.masm.proofs.Numerals.{NumberText}
+use Rattle.masm.proofs.Digits.{no-width, no-type, no-prefix-segment, no-register}
 use Rattle.masm.proofs.Expressions.{SumText, bracket-value, number-value, dollar-value}
-
--- ---- A word that begins with a digit is in no table
-
-abbrev letterFirst : List Token → Bool
-letterFirst [] = false
-letterFirst (sign c ∷ ts) = false
-letterFirst (word w ∷ ts) = not (begins isDigit w)
-
--- all names begin with a word that begins with no digit
-abbrev lettered : {A : Type 0} → Table A → Bool
-lettered [] = true
-lettered (e ∷ es) = letterFirst (e .0) && lettered es
-
-differs : (v w : List ℕ) → T (not (begins isDigit v)) → T (begins isDigit w) → sameList eqb v w ≡ false
-differs [] [] h k = absurd k
-differs [] (c ∷ w) h k = refl
-differs (d ∷ v) [] h k = refl
-differs (d ∷ v) (c ∷ w) h k =
-    rw (is-false (eqb d c) (not-T (eqb d c) (λ e. T-not (isDigit c) (rw (eqb→eq d c e) at h) k)))
-
-module _ (w : List ℕ) (ts : List Token) (k : T (begins isDigit w)) where
-  not-after : (ns : List Token) → T (letterFirst ns) → after ns (word w ∷ ts) ≡ none
-  not-after [] h = absurd h
-  not-after (sign c ∷ ns) h = absurd h
-  not-after (word v ∷ ns) h = rw (differs v w h k)
-
-  not-same : (ns : List Token) → T (letterFirst ns) → sameList sameToken ns (word w ∷ ts) ≡ false
-  not-same [] h = absurd h
-  not-same (sign c ∷ ns) h = absurd h
-  not-same (word v ∷ ns) h = rw (differs v w h k)
-
-  none-in-front : {A : Type 0} (es : Table A) → T (lettered es) → front es (word w ∷ ts) ≡ (none, word w ∷ ts)
-  none-in-front [] h = refl
-  none-in-front (e ∷ es) h =
-      let (a, b) = both (letterFirst (e .0)) (lettered es) h in
-      rw (not-after (e .0) a, front) (none-in-front es b)
-
-  not-found : {A : Type 0} (es : Table A) → T (lettered es) → lookup es (word w ∷ ts) ≡ none
-  not-found [] h = refl
-  not-found (e ∷ es) h =
-      let (a, b) = both (letterFirst (e .0)) (lettered es) h in
-      rw (not-same (e .0) a) (not-found es b)
-
-  no-width : front widths (word w ∷ ts) ≡ (none, word w ∷ ts)
-  unfolding widths
-  no-width = none-in-front widths tt
-
-  no-type : front (labels ++ synonyms) (word w ∷ ts) ≡ (none, word w ∷ ts)
-  unfolding labels synonyms
-  no-type = none-in-front (labels ++ synonyms) tt
-
-  no-prefix-segment : front segments (word w ∷ ts) ≡ (none, word w ∷ ts)
-  unfolding segments
-  no-prefix-segment = none-in-front segments tt
-
-  no-register : lookup registers (word w ∷ ts) ≡ none
-  unfolding registers
-  no-register = not-found registers tt
+use Rattle.masm.proofs.Decorations.{decorated-bare, decorated-append, completed-address, MaskText, BroadcastText, back-bare, back-append, back-comma, TailText, no-tail}
 
 -- ---- Operands
 
--- the text is an operand
-pub record OperandText (start : ℕ) (o : Operand) (u : List ℕ) : Type 0 where
+-- the text is an operand, without a brace
+pub record BareText (start : ℕ) (o : Operand) (u : List ℕ) : Type 0 where
   pub plainly : T (plain (tokens u))
   pub reads : operand start (tokens u) ≡ some o
+
+-- the text is an operand, and perhaps a mask and a broadcast after it
+pub record OperandText (start : ℕ) (o : Operand) (u : List ℕ) : Type 0 where
+  pub wholly : T (whole (tokens u))
+  pub untailed : back tails (tokens u) ≡ (none, tokens u)
+  pub reads : decorated start (tokens u) ≡ some o
+
+pub bare-operand : {start : ℕ} {o : Operand} {u : List ℕ} → BareText start o u → OperandText start o u
+bare-operand {start} {o} {u} t =
+    let h = no-brace (tokens u) (t .plainly) in
+    record {
+      wholly = plain-whole (tokens u) (t .plainly);
+      untailed = back-bare (tokens u) h;
+      reads = decorated-bare start (tokens u) h ∙ t .reads;
+    }
+
+-- A mask and a broadcast after an address, each where it is there.
+pub decorated-operand : {start : ℕ} {l : Option Label} {s : Option Register} {times : Register → ℕ} {d : ℕ} {m : Option Register} {n : Option ℕ}
+    {u x y : List ℕ} → BareText start (address l s times d none none) u → MaskText m x → BroadcastText n y
+    → OperandText start (address l s times d m n) (u ++ (x ++ y))
+decorated-operand {start} {m = m} {n = n} {u = u} {x = x} {y = y} t p q =
+    let us = p .lead ++ q .lead in
+    let e = follows-append (p .lead) (q .lead) x y (p .follows) (q .follows) u in
+    let h = no-brace (tokens u) (t .plainly) in
+    let b = p .braced (q .braced) in
+    record {
+      wholly = rw e (whole-append (tokens u) us (plain-whole (tokens u) (t .plainly)) (whole-append (p .lead) (q .lead) (p .wholly) (q .wholly)));
+      untailed = rw e (back-append (tokens u) h b (p .untailed (q .braced) (q .untailed)));
+      reads = rw (e, decorated-append start (tokens u) h b (p .names q) (q .reads), t .reads) (completed-address m n);
+    }
 
 pub number-operand : {start n : ℕ} {u : List ℕ} → NumberText n u → OperandText start (immediate (n % 2 ^ 32)) u
 number-operand {start} {n} {u} t =
     let w = t .spelling in
     let d = t .digit in
-    record {
+    bare-operand
+    (record {
       plainly = rw (t .one-token) tt;
       reads =
           rw (t .one-token, no-width w [] d, no-type w [] d, no-register w [] d, no-prefix-segment w [] d, ← (t .one-token), number-value t);
-    }
+    })
 
 -- the text names the register `r`
 pub record RegisterOperandText (r : Register) (u : List ℕ) : Type 0 where
@@ -97,7 +72,7 @@ pub record RegisterOperandText (r : Register) (u : List ℕ) : Type 0 where
   pub reads : (start : ℕ) → operand start (tokens u) ≡ some (register r)
 
 pub register-operand : {start r : ℕ} {u : List ℕ} → RegisterOperandText r u → OperandText start (register r) u
-register-operand {start} t = record { plainly = t .plainly; reads = t .reads start }
+register-operand {start} t = bare-operand (record { plainly = t .plainly; reads = t .reads start })
 
 -- ---- Branch targets: perhaps a width, `$`, a sign and a number
 
@@ -146,7 +121,8 @@ branch-operand {start} {n} {w} {t} {u} minus x y =
     let ts = from-dollar minus (tokens u) in
     let e : tokens (t ++ (36 ∷ cond minus 45 43 ∷ u)) ≡ x .lead ++ ts
     = rw (x .leads, dollar-split minus u) in
-    record {
+    bare-operand
+    (record {
       plainly = rw e (plain-append (x .lead) ts (x .plainly) (dollar-plain minus (tokens u) (rw (y .one-token) tt)));
       reads =
           rw (
@@ -156,7 +132,7 @@ branch-operand {start} {n} {w} {t} {u} minus x y =
             dollar-value minus y,
             +ℤ-idl (cond minus (negℤ (pos n)) (pos n)),
           );
-    }
+    })
 
 -- ---- Addresses
 
@@ -194,10 +170,10 @@ bracket-split : (u : List ℕ) → tokens (91 ∷ u ++ (93 ∷ [])) ≡ sign 91 
 unfolding tokens
 bracket-split u = ap (λ ts. sign 91 ∷ ts) (tokens-append u 93 [] refl)
 
-pub address-operand : {start : ℕ} {l : Option Label} {s : Option Register} {f : Value → Value} {t v u : List ℕ} → LabelText l t → SegmentText s v
+pub bare-address : {start : ℕ} {l : Option Label} {s : Option Register} {f : Value → Value} {t v u : List ℕ} → LabelText l t → SegmentText s v
     → SumText f u → f zero .starts ≡ 0
-    → OperandText start (address l s (timesIn (f zero .counts)) (wrapped (f zero .number))) (t ++ (v ++ (91 ∷ u ++ (93 ∷ []))))
-address-operand {start} {l} {s} {f} {t} {v} {u} x y z none-started =
+    → BareText start (address l s (timesIn (f zero .counts)) (wrapped (f zero .number)) none none) (t ++ (v ++ (91 ∷ u ++ (93 ∷ []))))
+bare-address {start} {l} {s} {f} {t} {v} {u} x y z none-started =
     let inside = tokens u ++ (sign 93 ∷ []) in
     let e : tokens (t ++ (v ++ (91 ∷ u ++ (93 ∷ [])))) ≡ x .lead ++ (y .lead ++ sign 91 ∷ inside)
     = rw (x .leads, y .leads, bracket-split u) in
@@ -208,17 +184,24 @@ address-operand {start} {l} {s} {f} {t} {v} {u} x y z none-started =
       reads = rw (e, x .names y start inside, y .names start l inside, bracket-value z, none-started);
     }
 
+pub address-operand : {start : ℕ} {l : Option Label} {s : Option Register} {f : Value → Value} {t v u : List ℕ} → LabelText l t → SegmentText s v
+    → SumText f u → f zero .starts ≡ 0
+    → OperandText start (address l s (timesIn (f zero .counts)) (wrapped (f zero .number)) none none) (t ++ (v ++ (91 ∷ u ++ (93 ∷ []))))
+address-operand x y z none-started = bare-operand (bare-address x y z none-started)
+
 -- ---- Operands with commas between them
 
 pub record OperandsText (start : ℕ) (os : List Operand) (u : List ℕ) : Type 0 where
   pub quietly : T (quiet (tokens u))
-  pub reads : each (operand start) (parts (tokens u)) ≡ some os
+  pub untailed : back tails (tokens u) ≡ (none, tokens u)
+  pub reads : each (decorated start) (parts (tokens u)) ≡ some os
 
 pub one-operand : {start : ℕ} {o : Operand} {u : List ℕ} → OperandText start o u → OperandsText start (o ∷ []) u
 one-operand {start} {o} {u} t =
     record {
-      quietly = plain-quiet (tokens u) (t .plainly);
-      reads = rw (one-part (tokens u) (no-comma (tokens u) (t .plainly)), t .reads);
+      quietly = whole-quiet (tokens u) (t .wholly);
+      untailed = t .untailed;
+      reads = rw (one-part (tokens u) (no-comma (tokens u) (t .wholly)), t .reads);
     }
 
 pub more-operands : {start : ℕ} {o : Operand} {os : List Operand} {u v : List ℕ} → OperandText start o u → OperandsText start os v
@@ -226,8 +209,9 @@ pub more-operands : {start : ℕ} {o : Operand} {os : List Operand} {u v : List 
 more-operands {start} {o} {os} {u} {v} s t =
     let e = comma-between u v in
     record {
-      quietly = rw e (quiet-append (tokens u) (sign 44 ∷ tokens v) (plain-quiet (tokens u) (s .plainly)) (t .quietly));
-      reads = rw (e, part-before-comma (tokens u) (tokens v) (no-comma (tokens u) (s .plainly)), s .reads, t .reads);
+      quietly = rw e (quiet-append (tokens u) (sign 44 ∷ tokens v) (whole-quiet (tokens u) (s .wholly)) (t .quietly));
+      untailed = rw (e, back-comma (tokens u) (tokens v), t .untailed);
+      reads = rw (e, part-before-comma (tokens u) (tokens v) (no-comma (tokens u) (s .wholly)), s .reads, t .reads);
     }
 
 -- ---- Lines
@@ -257,27 +241,36 @@ line-after : (start : ℕ) (w : List ℕ) (ts : List Token) (p : Prefix) → loo
     → line start (word w ∷ ts) ≡ Option·map (prefixed p) (line start ts)
 line-after start w ts p e = rw (e, line)
 
-pub bare-line : {start : ℕ} {m u : List ℕ} → MnemonicText m u → LineText start (record { prefixes = []; mnemonic = m; operands = [] }) u
+pub bare-line : {start : ℕ} {m u : List ℕ} → MnemonicText m u → LineText start (record { prefixes = []; mnemonic = m; operands = []; tail = none }) u
 bare-line {start} {m} {u} t =
     record {
       quietly = rw (t .one-token) tt;
       reads = rw (t .one-token, line-at start m [] (t .no-prefix), is-true (begins isLetter m) (t .letter));
     }
 
--- operands are read from some tokens
-operands-there : (start : ℕ) (os : List Operand) (ts : List Token) → each (operand start) (parts ts) ≡ some os → operandsOf start ts ≡ some os
-unfolding widths labels synonyms segments registers expression
-operands-there start os [] e = absurd (Option·none-ne-some os e)
-operands-there start os (t ∷ ts) e = e
+-- operands and perhaps a tail are read from some tokens
+operands-there : (start : ℕ) (os : List Operand) (end : Option Tail) (ts us : List Token) → back tails us ≡ (end, ts)
+    → each (decorated start) (parts ts) ≡ some os → operandsOf start us ≡ some (os, end)
+unfolding widths labels synonyms segments registers masks copies expression
+operands-there start os end ts [] e f = absurd (Option·none-ne-some os (rw (sym (ap (λ p. p .1) e)) at f))
+operands-there start os end ts (u ∷ us) e f = rw (e, f)
+
+-- a mnemonic, operands, and a tail where it is there
+pub tailed-line : {start : ℕ} {m u : List ℕ} {os : List Operand} {end : Option Tail} {v w : List ℕ} → MnemonicText m u → OperandsText start os v
+    → TailText end w → LineText start (record { prefixes = []; mnemonic = m; operands = os; tail = end }) (u ++ 32 ∷ (v ++ w))
+tailed-line {start} {m} {u} {os} {end} {v} {w} s t z =
+    let ts = tokens v ++ z .lead in
+    let e : tokens (u ++ 32 ∷ (v ++ w)) ≡ word m ∷ ts
+    = rw (blank-between u (v ++ w), s .one-token, z .follows v) in
+    let f = operands-there start os end (tokens v) ts (z .reads (tokens v) (t .untailed)) (t .reads) in
+    record {
+      quietly = rw e (quiet-append (tokens v) (z .lead) (t .quietly) (z .quietly));
+      reads = rw (e, line-at start m ts (s .no-prefix), is-true (begins isLetter m) (s .letter), f);
+    }
 
 pub full-line : {start : ℕ} {m u : List ℕ} {os : List Operand} {v : List ℕ} → MnemonicText m u → OperandsText start os v
-    → LineText start (record { prefixes = []; mnemonic = m; operands = os }) (u ++ 32 ∷ v)
-full-line {start} {m} {u} {os} {v} s t =
-    let e = operands-there start os (tokens v) (t .reads) in
-    record {
-      quietly = rw (blank-between u v, s .one-token) (t .quietly);
-      reads = rw (blank-between u v, s .one-token, line-at start m (tokens v) (s .no-prefix), is-true (begins isLetter m) (s .letter), e);
-    }
+    → LineText start (record { prefixes = []; mnemonic = m; operands = os; tail = none }) (u ++ 32 ∷ v)
+full-line {v = v} s t = rw (append-nil v) at (tailed-line s t no-tail)
 
 pub prefixed-line : {start : ℕ} {p : Prefix} {l : Line} {t u : List ℕ} → PrefixText p t → LineText start l u
     → LineText start (prefixed p l) (t ++ u)

@@ -85,6 +85,19 @@ unfolding tokens
 leads-apart [] h u = refl
 leads-apart (c ∷ t) h u = from-apart c t u h []
 
+-- the text `t` is the tokens `ts`, whatever text stands before it
+abbrev pub Follows : List Token → List ℕ → Type 0
+Follows ts t = (u : List ℕ) → tokens (u ++ t) ≡ tokens u ++ ts
+
+pub follows-nothing : Follows [] []
+follows-nothing u = ap tokens (append-nil u) ∙ sym (append-nil (tokens u))
+
+pub follows-apart : (c : ℕ) (t : List ℕ) → isWord c ≡ false → Follows (tokens (c ∷ t)) (c ∷ t)
+follows-apart c t h u = tokens-append u c t h
+
+pub follows-append : (ts us : List Token) (t v : List ℕ) → Follows ts t → Follows us v → Follows (ts ++ us) (t ++ v)
+follows-append ts us t v f g u = rw (← (append-assoc u t v), g (u ++ t), f u) (append-assoc (tokens u) ts us)
+
 -- ---- Words
 
 pub both : (a b : Bool) → T (a && b) → T a × T b
@@ -141,20 +154,36 @@ quiet-append ts us h k =
     pair (free 59 (ts ++ us)) (free 10 (ts ++ us)) (free-append 59 ts us a x) (free-append 10 ts us b y)
 
 -- and no comma
-abbrev pub plain : List Token → Bool
-plain ts = free 44 ts && quiet ts
+abbrev pub whole : List Token → Bool
+whole ts = free 44 ts && quiet ts
 
-pub plain-append : (ts us : List Token) → T (plain ts) → T (plain us) → T (plain (ts ++ us))
-plain-append ts us h k =
+pub whole-append : (ts us : List Token) → T (whole ts) → T (whole us) → T (whole (ts ++ us))
+whole-append ts us h k =
     let (a, b) = both (free 44 ts) (quiet ts) h in
     let (x, y) = both (free 44 us) (quiet us) k in
     pair (free 44 (ts ++ us)) (quiet (ts ++ us)) (free-append 44 ts us a x) (quiet-append ts us b y)
 
-pub no-comma : (ts : List Token) → T (plain ts) → T (free 44 ts)
+pub no-comma : (ts : List Token) → T (whole ts) → T (free 44 ts)
 no-comma ts h = both (free 44 ts) (quiet ts) h .0
 
-pub plain-quiet : (ts : List Token) → T (plain ts) → T (quiet ts)
-plain-quiet ts h = both (free 44 ts) (quiet ts) h .1
+pub whole-quiet : (ts : List Token) → T (whole ts) → T (quiet ts)
+whole-quiet ts h = both (free 44 ts) (quiet ts) h .1
+
+-- and no brace
+abbrev pub plain : List Token → Bool
+plain ts = free 123 ts && whole ts
+
+pub plain-append : (ts us : List Token) → T (plain ts) → T (plain us) → T (plain (ts ++ us))
+plain-append ts us h k =
+    let (a, b) = both (free 123 ts) (whole ts) h in
+    let (x, y) = both (free 123 us) (whole us) k in
+    pair (free 123 (ts ++ us)) (whole (ts ++ us)) (free-append 123 ts us a x) (whole-append ts us b y)
+
+pub no-brace : (ts : List Token) → T (plain ts) → T (free 123 ts)
+no-brace ts h = both (free 123 ts) (whole ts) h .0
+
+pub plain-whole : (ts : List Token) → T (plain ts) → T (whole ts)
+plain-whole ts h = both (free 123 ts) (whole ts) h .1
 
 -- Without `;` all tokens count.
 uncommented-all : (ts : List Token) → T (free 59 ts) → uncommented ts ≡ ts

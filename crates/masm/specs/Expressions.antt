@@ -39,14 +39,22 @@ abbrev pub begins : (ℕ → Bool) → List ℕ → Bool
 begins p [] = false
 begins p (c ∷ w) = p c
 
--- A number of 2^32 or more is refused.
-unfoldable pub numeral : List ℕ → Option ℕ
-numeral w = do
-  n ← cond (begins isDigit w) (valueBy endings w) none
+-- what a word spells by some endings; a number of 2^32 or more is refused
+abbrev pub numeralBy : List (List ℕ × ℕ) → List ℕ → Option ℕ
+numeralBy es w = do
+  n ← cond (begins isDigit w) (valueBy es w) none
   cond (ltb n (2 ^ 32)) (some n) none
 
+unfoldable pub numeral : List ℕ → Option ℕ
+numeral w = numeralBy endings w
+
+-- digits alone, without an ending: `16`, and neither `16d` nor `16h`
+unfoldable pub decimal : List ℕ → Option ℕ
+decimal w = numeralBy (([], 10) ∷ []) w
+
 -- ---- Registers: 8 times the class plus the number in the class, as the Intel manual numbers them.
--- Classes: 0 general of 32 bits, 1 of 16 bits, 2 of 8 bits, 3 segment, 4 floating point, 5 mm, 6 xmm, 7 ymm: document 01's banks.
+-- Classes: 0 general of 32 bits, 1 of 16 bits, 2 of 8 bits, 3 segment, 4 floating point, 5 mm, 6 xmm, 7 ymm, 8 zmm,
+-- 9 the mask registers: document 01's banks, and those of W-204.
 
 abbrev pub Register : Type 0
 Register = ℕ
@@ -67,6 +75,8 @@ registers =
     ++ class 5 "mm0, mm1, mm2, mm3, mm4, mm5, mm6, mm7"
     ++ class 6 "xmm0, xmm1, xmm2, xmm3, xmm4, xmm5, xmm6, xmm7"
     ++ class 7 "ymm0, ymm1, ymm2, ymm3, ymm4, ymm5, ymm6, ymm7"
+    ++ class 8 "zmm0, zmm1, zmm2, zmm3, zmm4, zmm5, zmm6, zmm7"
+    ++ class 9 "k0, k1, k2, k3, k4, k5, k6, k7"
 
 -- ---- Values: what an expression comes to
 

@@ -1,9 +1,12 @@
 -- How MASM reads a line of assembly text, from its characters up. Definitions only: examples and laws are in proofs/.
 --
 --   line        =  [instruction] [`;` comment]
---   instruction =  {prefix word} mnemonic [operand {`,` operand}]
+--   instruction =  {prefix word} mnemonic [operand {`,` operand} [tail]]
 --   operand     =  [type `ptr`] register
---               |  [`short` | `near` `ptr` | type `ptr`] [segment `:`] expression
+--               |  [`short` | `near` `ptr` | type `ptr`] [segment `:`] expression [mask] [broadcast]
+--   mask        =  `{k0}` | `{k1}` | .. | `{k7}`
+--   broadcast   =  `{1to` digits `}`                                             below 2^32
+--   tail        =  `{sae}` | `{rn-sae}` | `{rd-sae}` | `{ru-sae}` | `{rz-sae}`
 --   expression  =  term {(`+` | `-`) term}
 --   term        =  {`+` | `-`} factor {`*` {`+` | `-`} factor}
 --   factor      =  part {`(` expression `)` | `[` expression `]`}                what stands side by side is added
@@ -12,7 +15,7 @@
 --
 -- A register in an expression stands between brackets. `$` is the address of the instruction. An operand with a bracket or a segment is
 -- an address; one with `$` is a branch target; any other is an immediate. `short` and `near ptr` stand before a branch target alone, and
--- say that the branch has 8 or 32 bits for its distance.
+-- say that the branch has 8 or 32 bits for its distance. A mask and a broadcast stand after an address alone.
 -- What stands there is read, and not judged for what an instruction can encode: any registers and multiples may stand in a bracket, and
 -- a bracket with a lone number is an address.
 pub mod Tokens

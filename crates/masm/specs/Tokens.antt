@@ -71,7 +71,7 @@ sameToken (word w) (sign d) = false
 sameToken (sign c) (word v) = false
 sameToken (sign c) (sign d) = eqb c d
 
--- ---- Comments and commas
+-- ---- Comments, commas and braces
 
 -- `;` ends the line: what stands before it
 abbrev pub uncommented : List Token → List Token
@@ -86,6 +86,11 @@ lengthen t (p ∷ ps) = (t ∷ p) ∷ ps
 abbrev pub parts : List Token → List (List Token)
 parts [] = [] ∷ []
 parts (t ∷ ts) = cond (sameToken t (sign (code ","))) ([] ∷ parts ts) (lengthen t (parts ts))
+
+-- the tokens before the first `{`, and those from it on: `[eax]` and `{k1}` of `[eax]{k1}`
+abbrev pub atBrace : List Token → List Token × List Token
+atBrace [] = ([], [])
+atBrace (t ∷ ts) = cond (sameToken t (sign (code "{"))) ([], t ∷ ts) (t ∷ atBrace ts .0, atBrace ts .1)
 
 -- ---- Tables: names, quoted with commas between them, and what each of them means
 
@@ -107,15 +112,20 @@ lookup [] ts = none
 lookup (e ∷ es) ts = cond (sameList sameToken (e .0) ts) (some (e .1)) (lookup es ts)
 
 -- what is left of the second list where the first one begins it
-abbrev pub after : List Token → List Token → Option (List Token)
-after [] ts = some ts
-after (u ∷ us) [] = none
-after (u ∷ us) (t ∷ ts) = cond (sameToken u t) (after us ts) none
+abbrev pub after : {A : Type 0} → (A → A → Bool) → List A → List A → Option (List A)
+after eq [] ys = some ys
+after eq (x ∷ xs) [] = none
+after eq (x ∷ xs) (y ∷ ys) = cond (eq x y) (after eq xs ys) none
 
 -- what the name in front of some tokens means, if one is there, and the tokens after it
 abbrev pub front : {A : Type 0} → Table A → List Token → Option A × List Token
 front [] ts = (none, ts)
-front (e ∷ es) ts = elim (after (e .0) ts) [ some rest ↦ (some (e .1), rest) | none ↦ front es ts ]
+front (e ∷ es) ts = elim (after sameToken (e .0) ts) [ some rest ↦ (some (e .1), rest) | none ↦ front es ts ]
+
+-- what the name at the end of some tokens means, if one is there, and the tokens before it
+abbrev pub back : {A : Type 0} → Table A → List Token → Option A × List Token
+back es [] = (none, [])
+back es (t ∷ ts) = elim (lookup es (t ∷ ts)) [ some a ↦ (some a, []) | none ↦ (back es ts .0, t ∷ back es ts .1) ]
 
 -- ---- Answers that may be refusals
 

@@ -39,7 +39,7 @@ same-tag (suc n) (inr x) (inl y) e = absurd (omega arith)
 same-tag (suc n) (inr x) (inr y) e = ap inr (same-tag n x y (omega arith))
 
 by-tag : (x y : Arm) → tag x ≡ tag y → x ≡ y
-by-tag x y e = the-type .to-one x y (same-tag 38 (the-type .to x) (the-type .to y) e)
+by-tag x y e = the-type .to-one x y (same-tag 42 (the-type .to x) (the-type .to y) e)
 
 -- the first k arms
 abbrev pub firstArms : ℕ → List Arm
@@ -53,7 +53,7 @@ without xs (y ∷ ys) = cond (isOneOf y xs) (without xs ys) (y ∷ without xs ys
 
 -- the arms that are none of these: those of a `_`
 abbrev pub others : List Arm → List Arm
-others xs = without xs (firstArms 38)
+others xs = without xs (firstArms 42)
 
 -- a fact at each arm of a list
 abbrev pub Each : (Arm → Type 0) → List Arm → Type 0

@@ -14,12 +14,12 @@ use Rattle.names.specs.Opcodes.{arms, armOf, number, opcodes}
 abbrev inOrder : List Arm
 inOrder =
     arm.General ∷ arm.Qword ∷ arm.Mmword ∷ arm.Jmpf ∷ arm.Callf ∷ arm.Lds ∷
-    arm.Movs ∷ arm.Cmps ∷ arm.Branch ∷ arm.Call ∷ arm.Xbegin ∷ arm.Feni ∷
-    arm.Fdisi ∷ arm.Fsetpm ∷ arm.Hreset ∷ arm.Lsl ∷ arm.Prefetch ∷ arm.Sgdt ∷
-    arm.Lss ∷ arm.Nop ∷ arm.Monitor ∷ arm.Mwait ∷ arm.Invlpgb ∷ arm.Rdpru ∷
-    arm.Scas ∷ arm.Lods ∷ arm.Psmash ∷ arm.Pvalidate ∷ arm.Incssp ∷ arm.Wrss ∷
-    arm.Pblendvb ∷ arm.Lea ∷ arm.Pushf ∷ arm.Aam ∷ arm.Fcom ∷ arm.Fadd ∷
-    arm.Fbld ∷ arm.Fbstp ∷ []
+    arm.Movs ∷ arm.Cmps ∷ arm.Singles ∷ arm.Doubles ∷ arm.Branch ∷ arm.Call ∷
+    arm.Xbegin ∷ arm.Feni ∷ arm.Fdisi ∷ arm.Fsetpm ∷ arm.Hreset ∷ arm.Lsl ∷
+    arm.Prefetch ∷ arm.Sgdt ∷ arm.Lss ∷ arm.Nop ∷ arm.ScatterDword ∷ arm.ScatterQword ∷
+    arm.Monitor ∷ arm.Mwait ∷ arm.Invlpgb ∷ arm.Rdpru ∷ arm.Scas ∷ arm.Lods ∷
+    arm.Psmash ∷ arm.Pvalidate ∷ arm.Incssp ∷ arm.Wrss ∷ arm.Pblendvb ∷ arm.Lea ∷
+    arm.Pushf ∷ arm.Aam ∷ arm.Fcom ∷ arm.Fadd ∷ arm.Fbld ∷ arm.Fbstp ∷ []
 
 abbrev pub armAt : ℕ → Arm
 armAt n = getD inOrder n arm.General
@@ -39,10 +39,10 @@ none-to n zero none h = omega arith
 none-to n (suc k) none h = none-to n k (none .0) (omega (arith, none .1))
 
 -- a number that no arm behind the first has leads to the first
-pub at-else : (n : ℕ) → NoneTo n 37 → armAt n ≡ arm.General
+pub at-else : (n : ℕ) → NoneTo n 41 → armAt n ≡ arm.General
 at-else n none =
-    elim (decLt n 38) [
-      | yes h ↦ ap armAt (none-to n 37 none h)
+    elim (decLt n 42) [
+      | yes h ↦ ap armAt (none-to n 41 none h)
       | no h ↦ List·getD-eq-default inOrder arm.General {n = n} (omega arith)
     ]
 
@@ -60,6 +60,6 @@ module _ (table : List ℕ) (is : table ≡ map number arms) (opcode : ℕ) wher
   arm-found k found = ap armAt (sym found) ∙ arm-here
 
 -- a number that is no opcode has the general path
-pub arm-past : (opcode : ℕ) → 154 ≤ opcode → armOf opcode ≡ arm.General
+pub arm-past : (opcode : ℕ) → 176 ≤ opcode → armOf opcode ≡ arm.General
 unfolding armOf arms opcodes
 arm-past opcode past = List·getD-eq-default arms arm.General past

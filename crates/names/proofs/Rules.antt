@@ -74,21 +74,21 @@ module _ (n : ℕ) (words : List (List ℕ)) (keep : T (namesRule n words)) wher
       (name-some j (lt-trans l h)) e
 
 -- the mnemonic of each opcode
-pub mnemonic-some : (k : ℕ) → k < 154 → T (not (empty (mnemonic k)))
+pub mnemonic-some : (k : ℕ) → k < 176 → T (not (empty (mnemonic k)))
 unfolding mnemonic mnemonics opcodes
 mnemonic-some k h = name-some 13 mnemonics mnemonics-keep k h
 
-pub mnemonic-letters : (k : ℕ) → k < 154 → T (every letter (mnemonic k))
+pub mnemonic-letters : (k : ℕ) → k < 176 → T (every letter (mnemonic k))
 unfolding mnemonic mnemonics opcodes
 mnemonic-letters k h = name-letters 13 mnemonics mnemonics-keep k h
 
 -- "offsets ascend", at each opcode
-pub mnemonic-ascends : (k : ℕ) → k < 154 → getD (starts 0 mnemonics) k 0 < getD (starts 0 mnemonics) (suc k) 0
+pub mnemonic-ascends : (k : ℕ) → k < 176 → getD (starts 0 mnemonics) k 0 < getD (starts 0 mnemonics) (suc k) 0
 unfolding mnemonics opcodes
 mnemonic-ascends k h = offsets-ascend 13 mnemonics mnemonics-keep k (suc-le-suc h)
 
 -- two opcodes have two names
-pub mnemonic-alone : (j k : ℕ) → j < k → k < 154 → mnemonic j ≡ mnemonic k → ⊥
+pub mnemonic-alone : (j k : ℕ) → j < k → k < 176 → mnemonic j ≡ mnemonic k → ⊥
 unfolding mnemonic mnemonics opcodes
 mnemonic-alone j k l h e = name-alone 13 mnemonics mnemonics-keep j k l h e
 
@@ -130,6 +130,6 @@ unfolding segmentName
 segment-ascends k some = named-ascends segments segments-keep k some
 
 -- two registers have two names
-pub register-alone : (j k : ℕ) → j < k → k < 64 → T (not (empty (registerName j))) → registerName j ≡ registerName k → ⊥
+pub register-alone : (j k : ℕ) → j < k → k < 80 → T (not (empty (registerName j))) → registerName j ≡ registerName k → ⊥
 unfolding registerName registers
 register-alone j k l h some e = named-alone registers registers-keep j k l h some e

@@ -37,6 +37,12 @@ stems-keep : map (λ (k : ℕ). named (4 + k)) (down (length stems - 4)) ≡ map
 unfolding registers registerName built
 stems-keep = refl
 
+-- x, y and z before mm, by bank
+pub letters-side-by-side : (bank : ℕ) → 5 < bank → bank < 9 → (120 + (bank - 6)) ∷ bytes "mm" ≡ stem bank
+letters-side-by-side bank low high =
+    let place : 6 + (bank - 6) ≡ bank = omega arith in
+    agree-below (λ (k : ℕ). (120 + k) ∷ bytes "mm") (λ (k : ℕ). stem (6 + k)) 3 refl (bank - 6) (omega arith) ∙ ap stem place
+
 -- the name of each register of a bank that has a stem is stem, number and what closes
 pub register-built : (bank number : ℕ) → 4 ≤ bank → bank < length stems → number < 8 → registerName (8 * bank + number) ≡ built bank number
 register-built bank number low high h =
@@ -64,7 +70,7 @@ module _ (reg : ℕ) where
       byte-built refl (omega arith) high ∙ rw (← e, ne-eqb (reg / 8) 4 (λ q. omega (arith, low, q)))
 
   -- past the last bank there is no register
-  pub byte-past : 8 ≤ reg / 8 → length registers ≤ reg
+  pub byte-past : 10 ≤ reg / 8 → length registers ≤ reg
   unfolding registers
   byte-past h = omega (arith, div-add-mod' reg 8)
 

@@ -9,7 +9,7 @@ use Rattle.text.specs.Words.{bytes}
 
 -- the stems, by bank; the names of the banks 0 to 3 have none
 abbrev pub stems : List (List ℕ)
-stems = [] ∷ [] ∷ [] ∷ [] ∷ bytes "st(" ∷ bytes "mm" ∷ bytes "xmm" ∷ bytes "ymm" ∷ []
+stems = [] ∷ [] ∷ [] ∷ [] ∷ bytes "st(" ∷ bytes "mm" ∷ bytes "xmm" ∷ bytes "ymm" ∷ bytes "zmm" ∷ bytes "k" ∷ []
 
 abbrev pub stem : ℕ → List ℕ
 stem bank = getD stems bank []

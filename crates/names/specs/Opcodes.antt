@@ -16,6 +16,8 @@ use Rattle.names.specs.declared.Arm.the-variants.{
   Lds,
   Movs,
   Cmps,
+  Singles,
+  Doubles,
   Branch,
   Call,
   Xbegin,
@@ -28,6 +30,8 @@ use Rattle.names.specs.declared.Arm.the-variants.{
   Sgdt,
   Lss,
   Nop,
+  ScatterDword,
+  ScatterQword,
   Monitor,
   Mwait,
   Invlpgb,
@@ -108,11 +112,21 @@ opcodes =
     op "fucomip" Fadd ∷ op "fcomip" Fadd ∷
     op "fbld" Fbld ∷ op "fld" Fbld ∷ op "fild" Fbld ∷ op "fxch" Fbld ∷ op "fucom" Fbld ∷ op "fucomp" Fbld ∷
     op "fbstp" Fbstp ∷ op "fst" Fbstp ∷ op "fstp" Fbstp ∷ op "fist" Fbstp ∷ op "fistp" Fbstp ∷ op "fisttp" Fbstp ∷
+    op "vpscatterdd" ScatterDword ∷ op "vpscatterqd" ScatterDword ∷
+    op "vpscatterdq" ScatterQword ∷ op "vpscatterqq" ScatterQword ∷
+    op "vcvtpd2ps" Doubles ∷ op "vcvttpd2udq" Doubles ∷ op "vcvtpd2udq" Doubles ∷ op "vcvtudq2pd" Doubles ∷
+    op "vcvtps2pd" Doubles ∷ op "vcvtqq2ps" Doubles ∷ op "vcvtdq2pd" Doubles ∷ op "vcvttpd2dq" Doubles ∷
+    op "vfpclassps" Singles ∷
+    op "vfpclasspd" Doubles ∷
+    op "vcvtneps2bf16" Singles ∷
+    op "vcvtuqq2ps" Doubles ∷ op "vcvtpd2dq" Doubles ∷ op "vcvttps2uqq" Doubles ∷
+    op "vcvtps2uqq" Doubles ∷ op "vcvttps2qq" Doubles ∷ op "vcvtps2qq" Doubles ∷
+    op "vaddpd" General ∷
     []
 
 -- how many there are
 abbrev pub opcodeCount : ℕ
-opcodeCount = 154
+opcodeCount = 176
 
 -- their names
 unfoldable pub mnemonics : List (List ℕ)
@@ -140,36 +154,40 @@ number Callf = 4
 number Lds = 5
 number Movs = 6
 number Cmps = 7
-number Branch = 8
-number Call = 9
-number Xbegin = 10
-number Feni = 11
-number Fdisi = 12
-number Fsetpm = 13
-number Hreset = 14
-number Lsl = 15
-number Prefetch = 16
-number Sgdt = 17
-number Lss = 18
-number Nop = 19
-number Monitor = 20
-number Mwait = 21
-number Invlpgb = 22
-number Rdpru = 23
-number Scas = 24
-number Lods = 25
-number Psmash = 26
-number Pvalidate = 27
-number Incssp = 28
-number Wrss = 29
-number Pblendvb = 30
-number Lea = 31
-number Pushf = 32
-number Aam = 33
-number Fcom = 34
-number Fadd = 35
-number Fbld = 36
-number Fbstp = 37
+number Singles = 8
+number Doubles = 9
+number Branch = 10
+number Call = 11
+number Xbegin = 12
+number Feni = 13
+number Fdisi = 14
+number Fsetpm = 15
+number Hreset = 16
+number Lsl = 17
+number Prefetch = 18
+number Sgdt = 19
+number Lss = 20
+number Nop = 21
+number ScatterDword = 22
+number ScatterQword = 23
+number Monitor = 24
+number Mwait = 25
+number Invlpgb = 26
+number Rdpru = 27
+number Scas = 28
+number Lods = 29
+number Psmash = 30
+number Pvalidate = 31
+number Incssp = 32
+number Wrss = 33
+number Pblendvb = 34
+number Lea = 35
+number Pushf = 36
+number Aam = 37
+number Fcom = 38
+number Fadd = 39
+number Fbld = 40
+number Fbstp = 41
 
 -- the tables as the code holds and lends them: the names as one text with an offset for each, and each opcode's arm by its number
 abbrev pub MnemonicTable : List ℕ → List ℕ → Type 0

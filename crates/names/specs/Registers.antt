@@ -9,7 +9,7 @@ use Rattle.text.specs.Words.{bytes, Table}
 abbrev pub bank3 : List (List ℕ)
 bank3 = bytes "es" ∷ bytes "cs" ∷ bytes "ss" ∷ bytes "ds" ∷ bytes "fs" ∷ bytes "gs" ∷ []
 
--- the banks 0 to 7; "Bytes 30, 31 .. are no register"
+-- the banks 0 to 7; "Bytes 30, 31 .. are no register"; then document 02's: "banks 8, zmm0 to zmm7, and 9, k0 to k7"
 unfoldable pub registers : List (List ℕ)
 registers =
     bytes "eax" ∷ bytes "ecx" ∷ bytes "edx" ∷ bytes "ebx" ∷ bytes "esp" ∷ bytes "ebp" ∷ bytes "esi" ∷ bytes "edi" ∷
@@ -20,9 +20,11 @@ registers =
     bytes "mm0" ∷ bytes "mm1" ∷ bytes "mm2" ∷ bytes "mm3" ∷ bytes "mm4" ∷ bytes "mm5" ∷ bytes "mm6" ∷ bytes "mm7" ∷
     bytes "xmm0" ∷ bytes "xmm1" ∷ bytes "xmm2" ∷ bytes "xmm3" ∷ bytes "xmm4" ∷ bytes "xmm5" ∷ bytes "xmm6" ∷ bytes "xmm7" ∷
     bytes "ymm0" ∷ bytes "ymm1" ∷ bytes "ymm2" ∷ bytes "ymm3" ∷ bytes "ymm4" ∷ bytes "ymm5" ∷ bytes "ymm6" ∷ bytes "ymm7" ∷
+    bytes "zmm0" ∷ bytes "zmm1" ∷ bytes "zmm2" ∷ bytes "zmm3" ∷ bytes "zmm4" ∷ bytes "zmm5" ∷ bytes "zmm6" ∷ bytes "zmm7" ∷
+    bytes "k0" ∷ bytes "k1" ∷ bytes "k2" ∷ bytes "k3" ∷ bytes "k4" ∷ bytes "k5" ∷ bytes "k6" ∷ bytes "k7" ∷
     []))
 
--- the name of a register byte; "64 up are no register"
+-- the name of a register byte; a byte past the last bank has none
 unfoldable pub registerName : ℕ → List ℕ
 registerName reg = getD registers reg []
 

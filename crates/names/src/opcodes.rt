@@ -7,17 +7,17 @@ use crate::Arm;
 use text::words;
 
 // How many opcodes there are.
-pub const OPCODES: usize = 154;
+pub const OPCODES: usize = 176;
 
-pub type Letters = [u8; 788];
+pub type Letters = [u8; 1007];
 
-pub type Starts = [u16; 155];
+pub type Starts = [u16; 177];
 
 // The number of each opcode's arm.
 pub type Arms = [u8; OPCODES];
 
 const LETTERS: Letters =
-    *b"jmpcalljecxzlooploopzloopnzjojnojbjnbjzjnzjnajajsjnsjpjnpjljgejlejgxbeginmovaddoradcsbbandsubxorcmptestpushpopincdecnegnotfxsavefxrstormovapsmovqmovlpsmovhpsmovlpdmovhpdmovntsdcvtsi2sscvtsi2sdcvtsd2sicvttsd2sipextrqpinsrqldsleslfslgsjmpfcallfmovscmpsinsoutshresetlslprefetchntaprefetch0prefetch1prefetch2prefetchwinvlpgclflushclflushoptclwbsgdtsidtlgdtlidtlssnopmonitormonitorxmwaitxmwaitinvlpgbrdpruscasstoslodspsmashpvalidatermpadjustrmpupdateincsspwrsswrusspblendvbblendvpsblendvpdsha256rnds2leapushfaamaadfeni8087_nopfdisi8087_nopfsetpm287_nopfcomfcompficomficompfaddfmulfsubfsubrfdivfdivrfaddpfmulpfsubrpfsubpfdivpfdivrpfiaddfimulfisubfisubrfidivfidivrfcmovbfcmovefcmovbefcmovufcmovnbfcmovnefcmovnbefcmovnufucomifcomifucomipfcomipfbldfldfildfxchfucomfucompfbstpfstfstpfistfistpfisttp";
+    *b"jmpcalljecxzlooploopzloopnzjojnojbjnbjzjnzjnajajsjnsjpjnpjljgejlejgxbeginmovaddoradcsbbandsubxorcmptestpushpopincdecnegnotfxsavefxrstormovapsmovqmovlpsmovhpsmovlpdmovhpdmovntsdcvtsi2sscvtsi2sdcvtsd2sicvttsd2sipextrqpinsrqldsleslfslgsjmpfcallfmovscmpsinsoutshresetlslprefetchntaprefetch0prefetch1prefetch2prefetchwinvlpgclflushclflushoptclwbsgdtsidtlgdtlidtlssnopmonitormonitorxmwaitxmwaitinvlpgbrdpruscasstoslodspsmashpvalidatermpadjustrmpupdateincsspwrsswrusspblendvbblendvpsblendvpdsha256rnds2leapushfaamaadfeni8087_nopfdisi8087_nopfsetpm287_nopfcomfcompficomficompfaddfmulfsubfsubrfdivfdivrfaddpfmulpfsubrpfsubpfdivpfdivrpfiaddfimulfisubfisubrfidivfidivrfcmovbfcmovefcmovbefcmovufcmovnbfcmovnefcmovnbefcmovnufucomifcomifucomipfcomipfbldfldfildfxchfucomfucompfbstpfstfstpfistfistpfisttpvpscatterddvpscatterqdvpscatterdqvpscatterqqvcvtpd2psvcvttpd2udqvcvtpd2udqvcvtudq2pdvcvtps2pdvcvtqq2psvcvtdq2pdvcvttpd2dqvfpclasspsvfpclasspdvcvtneps2bf16vcvtuqq2psvcvtpd2dqvcvttps2uqqvcvtps2uqqvcvttps2qqvcvtps2qqvaddpd";
 
 const STARTS: Starts = [
     0,
@@ -175,10 +175,32 @@ const STARTS: Starts = [
     777,
     782,
     788,
+    799,
+    810,
+    821,
+    832,
+    841,
+    852,
+    862,
+    872,
+    881,
+    890,
+    899,
+    909,
+    919,
+    929,
+    942,
+    952,
+    961,
+    972,
+    982,
+    992,
+    1001,
+    1007,
 ];
 
 pub const ARMS: Arms =
-    *b"\x08\x09\x08\x08\x08\x08\x08\x08\x08\x08\x08\x08\x08\x08\x08\x08\x08\x08\x08\x08\x08\x08\x0a\x00\x00\x00\x00\x00\x00\x00\x00\x00\x00\x00\x00\x00\x00\x00\x00\x00\x00\x00\x01\x01\x01\x01\x01\x01\x01\x01\x02\x02\x01\x01\x05\x05\x05\x05\x03\x04\x06\x07\x07\x07\x0e\x0f\x10\x10\x10\x10\x10\x10\x10\x10\x10\x11\x11\x11\x11\x12\x13\x14\x14\x14\x15\x16\x17\x18\x18\x19\x1a\x1b\x1b\x1b\x1c\x1d\x1d\x1e\x1e\x1e\x1e\x1f\x20\x21\x21\x0b\x0c\x0d\x22\x22\x22\x22\x23\x23\x23\x23\x23\x23\x23\x23\x23\x23\x23\x23\x23\x23\x23\x23\x23\x23\x23\x23\x23\x23\x23\x23\x23\x23\x23\x23\x23\x23\x24\x24\x24\x24\x24\x24\x25\x25\x25\x25\x25\x25";
+    *b"\x0a\x0b\x0a\x0a\x0a\x0a\x0a\x0a\x0a\x0a\x0a\x0a\x0a\x0a\x0a\x0a\x0a\x0a\x0a\x0a\x0a\x0a\x0c\x00\x00\x00\x00\x00\x00\x00\x00\x00\x00\x00\x00\x00\x00\x00\x00\x00\x00\x00\x01\x01\x01\x01\x01\x01\x01\x01\x02\x02\x01\x01\x05\x05\x05\x05\x03\x04\x06\x07\x07\x07\x10\x11\x12\x12\x12\x12\x12\x12\x12\x12\x12\x13\x13\x13\x13\x14\x15\x18\x18\x18\x19\x1a\x1b\x1c\x1c\x1d\x1e\x1f\x1f\x1f\x20\x21\x21\x22\x22\x22\x22\x23\x24\x25\x25\x0d\x0e\x0f\x26\x26\x26\x26\x27\x27\x27\x27\x27\x27\x27\x27\x27\x27\x27\x27\x27\x27\x27\x27\x27\x27\x27\x27\x27\x27\x27\x27\x27\x27\x27\x27\x27\x27\x28\x28\x28\x28\x28\x28\x29\x29\x29\x29\x29\x29\x16\x16\x17\x17\x09\x09\x09\x09\x09\x09\x09\x09\x08\x09\x08\x09\x09\x09\x09\x09\x09\x00";
 
 pub fn letters() -> Letters
     ensures { λ r. ⌜ r ≡ join mnemonics ⌝ }
@@ -226,36 +248,40 @@ pub fn arm_of(table: &Arms, opcode: u16) -> Arm
             5 => Arm::Lds,
             6 => Arm::Movs,
             7 => Arm::Cmps,
-            8 => Arm::Branch,
-            9 => Arm::Call,
-            10 => Arm::Xbegin,
-            11 => Arm::Feni,
-            12 => Arm::Fdisi,
-            13 => Arm::Fsetpm,
-            14 => Arm::Hreset,
-            15 => Arm::Lsl,
-            16 => Arm::Prefetch,
-            17 => Arm::Sgdt,
-            18 => Arm::Lss,
-            19 => Arm::Nop,
-            20 => Arm::Monitor,
-            21 => Arm::Mwait,
-            22 => Arm::Invlpgb,
-            23 => Arm::Rdpru,
-            24 => Arm::Scas,
-            25 => Arm::Lods,
-            26 => Arm::Psmash,
-            27 => Arm::Pvalidate,
-            28 => Arm::Incssp,
-            29 => Arm::Wrss,
-            30 => Arm::Pblendvb,
-            31 => Arm::Lea,
-            32 => Arm::Pushf,
-            33 => Arm::Aam,
-            34 => Arm::Fcom,
-            35 => Arm::Fadd,
-            36 => Arm::Fbld,
-            37 => Arm::Fbstp,
+            8 => Arm::Singles,
+            9 => Arm::Doubles,
+            10 => Arm::Branch,
+            11 => Arm::Call,
+            12 => Arm::Xbegin,
+            13 => Arm::Feni,
+            14 => Arm::Fdisi,
+            15 => Arm::Fsetpm,
+            16 => Arm::Hreset,
+            17 => Arm::Lsl,
+            18 => Arm::Prefetch,
+            19 => Arm::Sgdt,
+            20 => Arm::Lss,
+            21 => Arm::Nop,
+            22 => Arm::ScatterDword,
+            23 => Arm::ScatterQword,
+            24 => Arm::Monitor,
+            25 => Arm::Mwait,
+            26 => Arm::Invlpgb,
+            27 => Arm::Rdpru,
+            28 => Arm::Scas,
+            29 => Arm::Lods,
+            30 => Arm::Psmash,
+            31 => Arm::Pvalidate,
+            32 => Arm::Incssp,
+            33 => Arm::Wrss,
+            34 => Arm::Pblendvb,
+            35 => Arm::Lea,
+            36 => Arm::Pushf,
+            37 => Arm::Aam,
+            38 => Arm::Fcom,
+            39 => Arm::Fadd,
+            40 => Arm::Fbld,
+            41 => Arm::Fbstp,
             _ => Arm::General,
         }
     } else {

@@ -91,13 +91,14 @@ fn put_numbered(buf: &mut [u8], at: usize, stem: &[u8], number: u8) -> usize
     text::put_byte(buf, next, 48 + number)
 }
 
-// What stands before mm in xmm and ymm. The two share all else, so that the processor need not guess which of them comes next.
+// What stands before mm in xmm, ymm and zmm: x, y and z stand side by side, as the banks do. The three share all else, so that the
+// processor need not guess which of them comes next.
 fn letter(bank: u8) -> u8
     requires { ⌜ 5 < bank ⌝ }
-    requires { ⌜ bank < 8 ⌝ }
+    requires { ⌜ bank < 9 ⌝ }
     ensures { λ r. ⌜ r ∷ bytes "mm" ≡ stemOf bank ⌝ }
 {
-    if bank == 6 { b'x' } else { b'y' }
+    b'x' + (bank - 6)
 }
 
 // The name of a register. A byte that is no register has none. The stems are words in the arms, by bank, and no array: that would be
@@ -118,10 +119,11 @@ pub fn put_register(buf: &mut [u8], at: usize, letters: &Letters, starts: &Start
             text::put_bytes(buf, next, b")")
         }
         5 => put_numbered(buf, at, b"mm", number),
-        6 | 7 => {
+        6 | 7 | 8 => {
             let next = text::put_byte(buf, at, letter(bank));
             put_numbered(buf, next, b"mm", number)
         }
+        9 => put_numbered(buf, at, b"k", number),
         _ => at,
     }
 }

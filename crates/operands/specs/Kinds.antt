@@ -1,8 +1,8 @@
--- The kinds of document 01 by name, and what is asked of an operand by its kind.
+-- The kinds of documents 01 and 02 by name, and what is asked of an operand by its kind.
 -- Assumes nothing.
-use mathlib.Core.Bool.{Bool, true, false}
-use Prim.Native.Nat.{ℕ}
-use lib.Dec.{eqb}
+use mathlib.Core.Bool.{Bool, true, false, cond, _&&_}
+use Prim.Native.Nat.{ℕ, _-_}
+use lib.Dec.{eqb, leb}
 use Rattle.operands.specs.declared.Operand.{Operand}
 use Rattle.operands.specs.declared.Operand.the-variants.{Absent, Register, Imm, Absolute16, Absolute32, Memory}
 
@@ -60,6 +60,14 @@ inBoth = 15
 abbrev pub inBothDisp : ℕ
 inBothDisp = 16
 
+-- document 02: "kinds 17 to 22, being 11 to 16 with a mask"
+abbrev pub isMasked : ℕ → Bool
+isMasked kind = leb 17 kind && leb kind 22
+
+-- the kind that a masked one is with its mask, and any other kind itself
+abbrev pub form : ℕ → ℕ
+form kind = cond (isMasked kind) (kind - 6) kind
+
 -- "at or past the count"
 abbrev pub isAbsent : Operand → Bool
 isAbsent Absent = true
@@ -67,7 +75,7 @@ isAbsent (Register place reg) = false
 isAbsent (Imm kind value) = false
 isAbsent (Absolute16 segment address) = false
 isAbsent (Absolute32 segment address) = false
-isAbsent (Memory segment address) = false
+isAbsent (Memory segment address mask) = false
 
 -- kinds 1 and 2
 abbrev pub isRegister : Operand → Bool
@@ -76,7 +84,7 @@ isRegister (Register place reg) = true
 isRegister (Imm kind value) = false
 isRegister (Absolute16 segment address) = false
 isRegister (Absolute32 segment address) = false
-isRegister (Memory segment address) = false
+isRegister (Memory segment address mask) = false
 
 -- kind 1
 abbrev pub isRegisterR : Operand → Bool
@@ -85,7 +93,7 @@ isRegisterR (Register place reg) = eqb place registerR
 isRegisterR (Imm kind value) = false
 isRegisterR (Absolute16 segment address) = false
 isRegisterR (Absolute32 segment address) = false
-isRegisterR (Memory segment address) = false
+isRegisterR (Memory segment address mask) = false
 
 -- kind 2
 abbrev pub isRegisterM : Operand → Bool
@@ -94,13 +102,13 @@ isRegisterM (Register place reg) = eqb place registerM
 isRegisterM (Imm kind value) = false
 isRegisterM (Absolute16 segment address) = false
 isRegisterM (Absolute32 segment address) = false
-isRegisterM (Memory segment address) = false
+isRegisterM (Memory segment address mask) = false
 
--- kinds 9 to 16
+-- kinds 9 to 22
 abbrev pub isMemory : Operand → Bool
 isMemory Absent = false
 isMemory (Register place reg) = false
 isMemory (Imm kind value) = false
 isMemory (Absolute16 segment address) = true
 isMemory (Absolute32 segment address) = true
-isMemory (Memory segment address) = true
+isMemory (Memory segment address mask) = true

@@ -34,3 +34,8 @@ pub const INDEX_DISP: u8 = 14;
 pub const BASE_INDEX: u8 = 15;
 
 pub const BASE_INDEX_DISP: u8 = 16;
+
+// Document 02: "kinds 17 to 22, being 11 to 16 with a mask"
+pub const MASKED_LEAST: u8 = 17;
+
+pub const MASKED_MOST: u8 = 22;

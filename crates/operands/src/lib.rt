@@ -14,29 +14,48 @@ pub struct Address {
 }
 
 // An operand as the record has it. `Absent` is an operand at or past the count. `place` is 1 for the R place and 2 for the M
-// place; an immediate keeps its kind, 3 to 8, and its value as 32 bits, extended where the kind is signed.
+// place; an immediate keeps its kind, 3 to 8, and its value as 32 bits, extended where the kind is signed. `mask` is the register byte of
+// the mask, and 0 of a kind that has none.
 pub enum Operand {
     // no text
     Absent,
     // `eax`, `xmm1`, `st(1)`
-    Register { place: u8, reg: u8 },
+    Register {
+        place: u8,
+        reg: u8,
+    },
     // `9`, `0FFFFFFFFh`
-    Imm { kind: u8, value: u32 },
+    Imm {
+        kind: u8,
+        value: u32,
+    },
     // `[0ABCDh]`, `fs:[0030h]`
-    Absolute16 { segment: u8, address: u16 },
+    Absolute16 {
+        segment: u8,
+        address: u16,
+    },
     // `[00402000h]`
-    Absolute32 { segment: u8, address: u32 },
-    // `[ebx]`, `fs:[ebx + esi * 4 - 10h]`
-    Memory { segment: u8, address: Address },
+    Absolute32 {
+        segment: u8,
+        address: u32,
+    },
+    // `[ebx]`, `fs:[ebx + esi * 4 - 10h]`, `[ebx]{k1}`
+    Memory {
+        segment: u8,
+        address: Address,
+        mask: u8,
+    },
 }
 
-// An accepted record.
+// An accepted record. `bits` are its length bits and `tail` its tail byte, which an extended record ends in; any other has 0 in both.
 pub struct Instruction {
     pub opcode: u16,
     pub flags: u8,
     pub length: u8,
     pub size: u8,
     pub imm: u32,
+    pub bits: u8,
+    pub tail: u8,
     pub a: Operand,
     pub b: Operand,
     pub c: Operand,
@@ -106,11 +125,37 @@ pub enum Shown {
     },
 }
 
-// One operand of a line. A segment of 0 is not shown.
+// What stands after a memory operand that is broadcast.
+pub enum Broadcast {
+    // no text
+    None,
+    // `{1to4}`
+    To(u8),
+}
+
+// One operand of a line. A segment of 0 is not shown, and neither is a mask of 0, which is the register byte of eax.
 pub struct Item {
     pub label: Label,
     pub segment: u8,
     pub shown: Shown,
+    pub mask: u8,
+    pub broadcast: Broadcast,
+}
+
+// What ends a line: a word of the Intel manual for the exceptions that are suppressed, and for how the result is rounded.
+pub enum Tail {
+    // no text
+    None,
+    // ` {sae}`
+    Sae,
+    // ` {rn-sae}`
+    Nearest,
+    // ` {rd-sae}`
+    Down,
+    // ` {ru-sae}`
+    Up,
+    // ` {rz-sae}`
+    Zero,
 }
 
 // The operands of a line, from the left.

@@ -5,7 +5,8 @@ use mathlib.Core.List.{List, [], _∷_, _++_, map}
 use Prim.Native.Nat.{ℕ}
 use Rattle.answers.specs.Refusals.{Refusal}
 use Rattle.answers.specs.Lines.{refusedText, refusedLine}
-use Rattle.bodies.specs.Refusals.{lengthRefused, segmentKept, firstKept, secondKept, scaleKept, operandRefused, fieldRefused}
+use Rattle.bodies.specs.Body.{placeOf, anyMasked, isExtended}
+use Rattle.bodies.specs.Refusals.{lengthRefused, segmentKept, firstKept, secondKept, scaleKept, maskKept, operandRefused, fieldRefused}
 use Rattle.bodies.specs.Decoding.{immediate, dispIn, addressOf, operandOf, operandAt, instructionOf}
 use Rattle.branches.specs.Sums.{signed, branchSum, branchShown}
 use Rattle.names.specs.Opcodes.{arms, armOf, opcodes, mnemonics, mnemonic}
@@ -14,16 +15,18 @@ use Rattle.names.specs.Labels.{labels, labelWord}
 use Rattle.places.specs.Labels.{labelAt}
 use Rattle.places.specs.Places.{operandShown, itemAt, itemsAt}
 use Rattle.arms.specs.Labels.{sizeLabel, generalLabel, lssLabel, tbyteLabel}
-use Rattle.arms.specs.Plans.{spread, general, planOf}
+use Rattle.arms.specs.Decorations.{broadcastCount, tailOf, broadcastRefused}
+use Rattle.arms.specs.Plans.{spread, general, placesOf, decorated, planOf}
 use Rattle.arms.specs.Shape.{shapeRefused}
 use Rattle.arms.specs.Size.{sizeRefused}
+use Rattle.numerals.specs.Decimals.{decimalWithin}
 use Rattle.numerals.specs.Digits.{digit, digits, placesFrom, places}
 use Rattle.numerals.specs.Numerals.{figure, numeral, displacement, absolute}
 use Rattle.lines.specs.Fronts.{labelText, segmentText}
-use Rattle.lines.specs.Brackets.{baseText, scaleText, indexedText, indexText, tailText, bracketText}
-use Rattle.lines.specs.Items.{absoluteText, branchText, shownText, itemText}
+use Rattle.lines.specs.Brackets.{baseText, scaleText, indexedText, indexText, tailText, bracketText, maskText}
+use Rattle.lines.specs.Items.{absoluteText, branchText, shownText, broadcastText, itemText}
 use Rattle.lines.specs.Head.{headOf}
-use Rattle.lines.specs.Text.{repsText, prefixesText, nameText, headText, partedText, itemsText, lineText}
+use Rattle.lines.specs.Text.{repsText, prefixesText, nameText, headText, partedText, itemsText, tailWord, lineText}
 use Rattle.records.specs.declared.Asked.{Asked}
 use Rattle.records.specs.Records.{refusals, lineAt, recordText}
 use Rattle.records.specs.Lines.{recordLine}
@@ -39,6 +42,8 @@ use Rattle.printed.specs.TableName.{nameRows}
 use Rattle.printed.specs.TableArm.{armRows}
 use Rattle.printed.specs.TableRefusal.{refusalRows}
 use Rattle.printed.specs.TableListing.{listingRows}
+use Rattle.printed.specs.TableMask.{maskRows}
+use Rattle.printed.specs.TableVector.{vectorRows}
 use Rattle.printed.specs.TableLimit.{limitRows}
 use Rattle.printed.proofs.Saying.{Found, found, wanted, record-says, listing-says}
 use Rattle.printed.proofs.Limits.{limits-hold}
@@ -61,7 +66,7 @@ wantedIn r mode = wanted (r .said)
 
 -- all rows at once
 computed : map (λ (r : Row). map (foundIn r) (r .modes)) t.computed ≡ map (λ (r : Row). map (wantedIn r) (r .modes)) t.computed
-unfolding t.computed branchRows generalRows nameRows armRows refusalRows listingRows refusals listingRefusals listingText linesOf linesWithin frontLine recordLine refusedText refusedLine recordText lineAt lengthRefused fieldRefused operandRefused segmentKept firstKept secondKept scaleKept shapeRefused sizeRefused armOf arms opcodes instructionOf operandAt operandOf immediate dispIn addressOf planOf spread general generalLabel sizeLabel lssLabel tbyteLabel labelAt operandShown itemAt itemsAt signed branchSum branchShown headOf digit digits placesFrom places figure numeral displacement absolute mnemonics mnemonic registers registerName segments segmentName labels labelWord labelText segmentText baseText scaleText indexedText indexText tailText bracketText absoluteText branchText shownText itemText repsText prefixesText nameText headText partedText itemsText lineText
+unfolding t.computed branchRows generalRows nameRows armRows refusalRows listingRows maskRows vectorRows placeOf anyMasked isExtended maskKept broadcastRefused broadcastCount tailOf decorated placesOf decimalWithin maskText broadcastText tailWord refusals listingRefusals listingText linesOf linesWithin frontLine recordLine refusedText refusedLine recordText lineAt lengthRefused fieldRefused operandRefused segmentKept firstKept secondKept scaleKept shapeRefused sizeRefused armOf arms opcodes instructionOf operandAt operandOf immediate dispIn addressOf planOf spread general generalLabel sizeLabel lssLabel tbyteLabel labelAt operandShown itemAt itemsAt signed branchSum branchShown headOf digit digits placesFrom places figure numeral displacement absolute mnemonics mnemonic registers registerName segments segmentName labels labelWord labelText segmentText baseText scaleText indexedText indexText tailText bracketText absoluteText branchText shownText itemText repsText prefixesText nameText headText partedText itemsText lineText
 computed = refl
 
 -- what is found in one of its modes is what the row says there

@@ -1,12 +1,12 @@
 -- What an entry point comes to before there is a buffer, and what that says of every buffer.
 -- Assumes nothing.
 use mathlib.Core.Path.{_≡_, sym, ap}
-use mathlib.Core.Bool.{Bool, true}
+use mathlib.Core.Bool.{Bool, true, not}
 use mathlib.Core.List.{List, []}
 use Prim.Native.Nat.{ℕ, _<_}
 use native.Mathlib.Omega.{arith}
-use borrow.Author.Tests.{le-ltb, lt-ltb, ltb-true, ne-eqb}
-use lib.Dec.{ltb}
+use borrow.Author.Tests.{le-ltb, lt-ltb, ltb-true, ne-eqb, eqb-false, not-true}
+use lib.Dec.{eqb, ltb}
 use lib.ListN as list
 use Rattle.text.specs.Words.{bytes}
 use Rattle.answers.specs.Refusals.{Refusal, NeverZero, room, answerOf}
@@ -19,17 +19,17 @@ use Rattle.listings.specs.Lines.{listingText}
 use Rattle.listings.specs.Listings.{listingRefusals, listingOutcome}
 use Rattle.printed.specs.Rows.{Expected, prints, answers, Printed, Answered, Says}
 
--- the answer before there is a buffer, the text where one is said, and that an answer said is one of 1 to 5
+-- the answer before there is a buffer, the text where one is said, and that an answer said is neither 0 nor the one for room
 abbrev pub Found : Type 0
-Found = record { answer : ℕ; text : List ℕ; some : Bool; below : Bool }
+Found = record { answer : ℕ; text : List ℕ; some : Bool; other : Bool }
 
 abbrev pub found : Expected → List Refusal → List ℕ → Found
-found (prints said) rs text = record { answer = answerOf rs; text = text; some = true; below = true }
-found (answers n) rs text = record { answer = answerOf rs; text = []; some = ltb 0 n; below = ltb n room }
+found (prints said) rs text = record { answer = answerOf rs; text = text; some = true; other = true }
+found (answers n) rs text = record { answer = answerOf rs; text = []; some = ltb 0 n; other = not (eqb n room) }
 
 abbrev pub wanted : Expected → Found
-wanted (prints said) = record { answer = 0; text = bytes said; some = true; below = true }
-wanted (answers n) = record { answer = n; text = []; some = true; below = true }
+wanted (prints said) = record { answer = 0; text = bytes said; some = true; other = true }
+wanted (answers n) = record { answer = n; text = []; some = true; other = true }
 
 -- an entry point's outcome, by its refusals and its text
 abbrev pub by : List Refusal → List ℕ → List ℕ → Outcome
@@ -45,10 +45,10 @@ printed rs text numbered none =
     }
 
 -- what refuses is the answer, whatever the text
-answered : (rs : List Refusal) (text : List ℕ) (n : ℕ) → 0 < n → n < 6 → answerOf rs ≡ n → Answered (by rs text) n
+answered : (rs : List Refusal) (text : List ℕ) (n : ℕ) → 0 < n → (n ≡ room → ⊥) → answerOf rs ≡ n → Answered (by rs text) n
 unfolding outcomeOf
-answered rs text n some below e buf =
-    rw (answer-before rs _ some e, ne-eqb n 0 (λ z. omega (arith, some, z)), ne-eqb n 6 (λ z. omega (arith, below, z)))
+answered rs text n some other e buf =
+    rw (answer-before rs _ some e, ne-eqb n 0 (λ z. omega (arith, some, z)), ne-eqb n 6 other)
 
 -- what is found as it is said holds of every buffer
 pub says : (said : Expected) (rs : List Refusal) (text : List ℕ) → NeverZero rs → found said rs text ≡ wanted said → Says (by rs text) said
@@ -56,7 +56,7 @@ says (prints said) rs text numbered e =
     let is : text ≡ bytes said = ap (λ (f : Found). f .text) e in
     rw (sym is) (printed rs text numbered (ap (λ (f : Found). f .answer) e))
 says (answers n) rs text numbered e =
-    answered rs text n (ltb-true 0 n (ap (λ (f : Found). f .some) e)) (ltb-true n 6 (ap (λ (f : Found). f .below) e))
+    answered rs text n (ltb-true 0 n (ap (λ (f : Found). f .some) e)) (eqb-false n room (not-true (eqb n room) (ap (λ (f : Found). f .other) e)))
     (ap (λ (f : Found). f .answer) e)
 
 -- of a record

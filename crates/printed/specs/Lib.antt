@@ -6,6 +6,8 @@ pub mod TableName
 pub mod TableArm
 pub mod TableRefusal
 pub mod TableListing
+pub mod TableMask
+pub mod TableVector
 pub mod TableLimit
 pub mod Table
 pub mod Coverage

@@ -40,7 +40,7 @@ pub data Entry : Type 0 where
   oneRecord : Entry
   oneListing : Entry
 
--- what the Rust made of it: a text, or one of document 01's answers 1 to 5
+-- what the Rust made of it: a text, or one of the answers 1 to 5 and 7
 pub data Expected : Type 0 where
   prints : String → Expected
   answers : ℕ → Expected

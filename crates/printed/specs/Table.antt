@@ -8,11 +8,13 @@ use Rattle.printed.specs.TableName.{nameRows}
 use Rattle.printed.specs.TableArm.{armRows}
 use Rattle.printed.specs.TableRefusal.{refusalRows}
 use Rattle.printed.specs.TableListing.{listingRows}
+use Rattle.printed.specs.TableMask.{maskRows}
+use Rattle.printed.specs.TableVector.{vectorRows}
 use Rattle.printed.specs.TableLimit.{limitRows}
 
 -- the rows that are computed, and then those at the limit of a listing
 unfoldable pub computed : List Row
-computed = branchRows ++ (generalRows ++ (nameRows ++ (armRows ++ (refusalRows ++ listingRows))))
+computed = branchRows ++ (generalRows ++ (nameRows ++ (armRows ++ (refusalRows ++ (listingRows ++ (maskRows ++ vectorRows))))))
 
 unfoldable pub table : List Row
 table = computed ++ limitRows

@@ -31,4 +31,8 @@ listingRows =
     listing unknown "" (answers 1) ∷
     listing unknown "01" (answers 1) ∷
     listing unknown "02" (answers 1) ∷
+    -- Listings: extended records among others, and `; refused 7`
+    listing both "01 0020 00AF 40 04 08 00000000 00000000 03 0100400000 0100410000 110000000049 01 02 0013 0021 00 04 00 FFFFFFFF 00000000 01 0300000000 001F 009A 00 04 00 00000000 00000000 03 0F00004104 0200490000 0100420000 00 00" (prints "vaddpd zmm0, zmm1, qword ptr [eax]{k1}{1to8} {rd-sae}\npush 0FFFFFFFFh\nvpscatterdd dword ptr [eax + zmm1 * 4]{k1}, zmm2\n") ∷
+    listing both "01 001A 00AF 40 04 02 00000000 00000000 02 0100400000 0B00000000 00 00" (prints "; refused 7\n") ∷
+    listing both "01 001D 009A 00 04 00 00000000 00000000 03 0F00004104 0200490000 0100420000 001A 00AF 40 04 02 00000000 00000000 02 0100400000 0B00000000 00 00 0013 0021 00 04 00 FFFFFFFF 00000000 01 0300000000 0010 009D 00 04 00 00000000 00000000 00 00 00 0020 00AF 40 04 08 00000000 00000000 03 0100400000 0100410000 110000000049 01 02 00 26 00" (prints "; refused 2\n; refused 7\npush 0FFFFFFFFh\n; refused 4\nvaddpd zmm0, zmm1, qword ptr [eax]{k1}{1to8} {rd-sae}\n; cut\n") ∷
     []

@@ -18,7 +18,7 @@ use Rattle.numerals.specs.Numerals.{displacement}
 use Rattle.names.specs.Registers.{registerName}
 use Rattle.operands.specs.declared.Address.{Address}
 use Rattle.lines.specs.Brackets.{baseText, scaleText, indexedText, indexText, tailText, bracketText}
-use Rattle.bodies.specs.WellFormed.{ScaleKept, AddressKept}
+use Rattle.bodies.specs.WellFormed.{ScaleKept, IndexKept, AddressKept}
 use Rattle.masm.specs.Tokens.{tokens}
 use Rattle.masm.specs.Expressions.{numeral, Register, Value, constant, multiple, plus}
 use Rattle.masm.specs.Operands.{timesIn}
@@ -26,17 +26,17 @@ use Rattle.masm.proofs.Leaves.{isNumber, number-text}
 use Rattle.masm.proofs.Expressions.{TermText, SumText, number-term, register-term, scaled-term, term-sum, plus-sum, minus-sum}
 use Rattle.readback.specs.Meaning.{timesOf, addedOf}
 use Rattle.readback.proofs.Numbers.{numeral-text}
-use Rattle.readback.proofs.Names.{inside-name}
+use Rattle.readback.proofs.Names.{inside-name, index-name}
 
 -- ---- Registers and scales
 
 -- the index with its scale counts as often as the scale says
-index-term : (r s : ℕ) → r < 16 → ScaleKept s → TermText (multiple r s) (registerName r ++ scaleText s)
+index-term : (r s : ℕ) → IndexKept r → ScaleKept s → TermText (multiple r s) (registerName r ++ scaleText s)
 unfolding scaleText isNumber tokens numeral digits digit
-index-term r s h (inl e) = rw (e, append-nil) (register-term (inside-name h))
-index-term r s h (inr (inl e)) = rw e (scaled-term (inside-name h) (number-text {n = 2} {u = digits 1 2} tt))
-index-term r s h (inr (inr (inl e))) = rw e (scaled-term (inside-name h) (number-text {n = 4} {u = digits 1 4} tt))
-index-term r s h (inr (inr (inr e))) = rw e (scaled-term (inside-name h) (number-text {n = 8} {u = digits 1 8} tt))
+index-term r s h (inl e) = rw (e, append-nil) (register-term (index-name h))
+index-term r s h (inr (inl e)) = rw e (scaled-term (index-name h) (number-text {n = 2} {u = digits 1 2} tt))
+index-term r s h (inr (inr (inl e))) = rw e (scaled-term (index-name h) (number-text {n = 4} {u = digits 1 4} tt))
+index-term r s h (inr (inr (inr e))) = rw e (scaled-term (index-name h) (number-text {n = 8} {u = digits 1 8} tt))
 
 -- ---- The displacement
 
@@ -77,7 +77,7 @@ pub bracket-parts : (a : Address) → bracketText a ≡ 91 ∷ insideText a ++ (
 unfolding bracketText tailText
 bracket-parts a = simp append-assoc
 
-module _ (base index scale : ℕ) (displaced : Bool) (disp : ℤ) (b : base < 16) (i : index < 16) (f : SFits w32 disp) where
+module _ (base index scale : ℕ) (displaced : Bool) (disp : ℤ) (b : base < 16) (i : IndexKept index) (f : SFits w32 disp) where
   abbrev made : Bool → Bool → Address
   made based indexed =
       record { disp = disp; base = base; index = index; scale = scale; based = based; indexed = indexed; displaced = displaced }

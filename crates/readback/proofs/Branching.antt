@@ -1,7 +1,7 @@
 -- Where MASM's reader takes printed branches to go, and with which width, in both modes.
 -- Assumes nothing.
 use mathlib.Core.Path.{_≡_, refl, sym, ap, subst, _∙_}
-use mathlib.Core.Bool.{Bool, true, false, cond, _&&_}
+use mathlib.Core.Bool.{not, Bool, true, false, cond, _&&_}
 use mathlib.Core.List.{List, [], _∷_}
 use mathlib.Core.Logic.{inl, inr, _↔_}
 use mathlib.Core.Option.{Option, none, some}
@@ -25,7 +25,9 @@ use Rattle.branches.specs.Sums.{signed, branchSum, branchWord, branchShown, fro
 use Rattle.names.specs.Opcodes.{opcodes, arms, armOf}
 use Rattle.operands.specs.Parts.{immediateKind, immediateOf}
 use Rattle.arms.specs.Tests.{isBranch, isXbegin}
-use Rattle.arms.specs.Plans.{one, planOf}
+use Rattle.arms.specs.Plans.{one, placesOf, planOf}
+use Rattle.arms.proofs.GeneralPath.{path-of-branch, path-of-call, path-of-xbegin}
+use Rattle.arms.proofs.Over16.{plan-of-own}
 use Rattle.places.specs.Places.{itemAt, itemsAt}
 use Rattle.places.specs.declared.Place.the-variants as place
 use Rattle.names.specs.declared.Arm.the-variants.{General, Branch, Call, Xbegin}
@@ -79,11 +81,22 @@ module _ (i : Instruction) where
         | no l ↦ let e : i .opcode ≡ 22 = omega arith in xbegin (ap armOf e ∙ xbegin-arm) (rw k) (rw e)
       ]
 
+  branch-places : isBranch (i .a) ≡ true → placesOf Branch i ≡ one place.Branch
+  unfolding placesOf
+  branch-places k = rw k
+
+  call-places : isBranch (i .a) ≡ true → placesOf Call i ≡ one place.Branch
+  unfolding placesOf
+  call-places k = rw k
+
+  xbegin-places : isXbegin (i .a) ≡ true → placesOf Xbegin i ≡ one place.Branch
+  unfolding placesOf
+  xbegin-places k = rw k
+
   shows-branch : ByArm i → planOf (armOf (i .opcode)) i ≡ one place.Branch
-  unfolding planOf
-  shows-branch (jump e k n) = rw (e, k)
-  shows-branch (call e k n) = rw (e, k)
-  shows-branch (xbegin e k n) = rw (e, k)
+  shows-branch (jump e k n) = rw e (sym (plan-of-own Branch i (path-of-branch i ∙ ap not k)) ∙ branch-places k)
+  shows-branch (call e k n) = rw e (sym (plan-of-own Call i (path-of-call i ∙ ap not k)) ∙ call-places k)
+  shows-branch (xbegin e k n) = rw e (sym (plan-of-own Xbegin i (path-of-xbegin i ∙ ap not k)) ∙ xbegin-places k)
 
 -- ---- The sum that is shown
 
@@ -188,7 +201,7 @@ short-kept (Register place reg) k e = absurd (omega arith)
 short-kept (Imm kind value) k e = (k .fits, k .i8 e)
 short-kept (Absolute16 segment address) k e = absurd (omega arith)
 short-kept (Absolute32 segment address) k e = absurd (omega arith)
-short-kept (Memory segment address) k e = absurd (omega arith)
+short-kept (Memory segment address mask) k e = absurd (omega arith)
 
 module _ (i : Instruction) where
   long-target : (mode : Mode) (start : ℕ) → immediateKind (i .a) ≡ i32 → modulo (pos start +ℤ sumOf mode i) ≡ recordTarget start i

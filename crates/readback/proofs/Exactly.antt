@@ -11,6 +11,7 @@ use lib.Dec.{T, ltb, eqb}
 use lib.Ieee.Bits.{is-true}
 use Rattle.operands.specs.declared.Instruction.{Instruction}
 use Rattle.operands.specs.declared.Label.{Label}
+use Rattle.operands.specs.declared.Broadcast.{Broadcast}
 use Rattle.operands.specs.declared.Shown.{Shown}
 use Rattle.operands.specs.declared.Shown.the-variants.{Nothing, Name, St, Number, Word, Dword, Bracket, Branch as BranchShown}
 use Rattle.operands.specs.declared.Item.{Item}
@@ -44,22 +45,22 @@ any-append [] ys e f = f
 any-append (x ∷ xs) ys e f =
     rw (neither-left (isTarget x) (anyTarget xs) e) (any-append xs ys (neither-right (isTarget x) (anyTarget xs) e) f)
 
-shown-target : (start : ℕ) (l : Label) (s : ℕ) (x : Shown) → isBranchShown x ≡ false → anyTarget (operandOf start l s x) ≡ false
-shown-target start l s Nothing e = refl
-shown-target start l s (Name reg) e = refl
-shown-target start l s St e = refl
-shown-target start l s (Number value) e = refl
-shown-target start l s (Word address) e = refl
-shown-target start l s (Dword address) e = refl
-shown-target start l s (Bracket address) e = refl
-shown-target start l s (BranchShown word minus size) e = absurd (true≢false e)
+shown-target : (start : ℕ) (l : Label) (s mask : ℕ) (b : Broadcast) (x : Shown) → isBranchShown x ≡ false → anyTarget (operandOf start l s mask b x) ≡ false
+shown-target start l s mask b Nothing e = refl
+shown-target start l s mask b (Name reg) e = refl
+shown-target start l s mask b St e = refl
+shown-target start l s mask b (Number value) e = refl
+shown-target start l s mask b (Word address) e = refl
+shown-target start l s mask b (Dword address) e = refl
+shown-target start l s mask b (Bracket address) e = refl
+shown-target start l s mask b (BranchShown word minus size) e = absurd (true≢false e)
 
 is-no-branch : (b : Bool) → (b ≡ true → false ≡ true) → b ≡ false
 is-no-branch true f = sym (f refl)
 is-no-branch false f = refl
 
 item-target : (start : ℕ) (x : Item) → SoundItem false x → anyTarget (itemOf start x) ≡ false
-item-target start x i = shown-target start (x .label) (x .segment) (x .shown) (is-no-branch (isBranchShown (x .shown)) (i .branch))
+item-target start x i = shown-target start (x .label) (x .segment) (x .mask) (x .broadcast) (x .shown) (is-no-branch (isBranchShown (x .shown)) (i .branch))
 
 no-target : (start : ℕ) (l : Line) → Sound false l → anyTarget (meaning start l .operands) ≡ false
 unfolding meaning

@@ -8,19 +8,21 @@ use Rattle.text.specs.Choice.{when}
 use Rattle.text.specs.Words.{bytes}
 use Rattle.operands.specs.declared.Shown.{Shown}
 use Rattle.operands.specs.declared.Shown.the-variants.{Nothing, Name, St, Number, Word, Dword, Bracket, Branch}
+use Rattle.operands.specs.declared.Tail.{Tail}
+use Rattle.operands.specs.declared.Tail.the-variants as tail
 use Rattle.operands.specs.declared.Item.{Item}
 use Rattle.operands.specs.declared.Items.{Items}
 use Rattle.lines.specs.Items.{itemText}
-use Rattle.lines.specs.Text.{repsText, prefixesText, nameText, headText, shows as isShown, partedText, itemsText, lineText}
+use Rattle.lines.specs.Text.{repsText, prefixesText, nameText, headText, shows as isShown, partedText, itemsText, tailWord, lineText}
 use Rattle.lines.specs.declared.Head.{Head}
 use Rattle.lines.specs.declared.Line.{Line}
 use Rattle.bodies.proofs.Picks.{neither-left, neither-right, both-left, both-right}
 use Rattle.masm.specs.Operands.{Operand}
 use Rattle.masm.specs.Lines.{Prefix, Line as Read, shows, read}
-use Rattle.masm.proofs.Texts.{OperandText, OperandsText, one-operand, more-operands, MnemonicText, PrefixText, LineText, bare-line, full-line, prefixed-line, line-read}
-use Rattle.readback.specs.Meaning.{shownIf, itemOf, meaning}
+use Rattle.masm.proofs.Texts.{OperandText, OperandsText, one-operand, more-operands, MnemonicText, PrefixText, LineText, bare-line, tailed-line, prefixed-line, line-read}
+use Rattle.readback.specs.Meaning.{shownIf, itemOf, tailOf, meaning}
 use Rattle.readback.proofs.Sound.{SoundItem, Sound, isMissing, lacksLabel, isNothing, fromTheLeft}
-use Rattle.readback.proofs.Names.{xacquire, xrelease, lock, rep, repne, mnemonic-name}
+use Rattle.readback.proofs.Names.{xacquire, xrelease, lock, rep, repne, mnemonic-name, tail-shown}
 use Rattle.readback.proofs.Operands.{item-read}
 
 -- ---- Operands
@@ -99,17 +101,19 @@ module _ {k : Bool} (start : ℕ) (x : Items) (a : SoundItem k (x .a)) (b : Soun
       (one-more start (x .c) c (search (neither-left, neither-right, labels))
       (rw (append-nil (itemOf start (x .d)), append-nil (partedText (bytes ", ") (x .d))) at last))
 
-  module _ {m u : List ℕ} (t : MnemonicText m u) where
+  -- and the tail, which stands after an operand
+  module _ (end : Tail) (ended : isNothing (x .a .shown) ≡ true → end ≡ tail.None) {m u : List ℕ} (t : MnemonicText m u) where
     abbrev Shown-line : Type 0
-    Shown-line = LineText start (record { prefixes = []; mnemonic = m; operands = shown-operands }) (u ++ itemsText x)
+    Shown-line = LineText start (record { prefixes = []; mnemonic = m; operands = shown-operands; tail = tailOf end }) (u ++ (itemsText x ++ tailWord end))
 
     nothing-shown : isNothing (x .a .shown) ≡ true → Shown-line
-    unfolding itemsText
+    unfolding itemsText tailWord
     nothing-shown e =
         let f = implied (isNothing (x .a .shown)) (isNothing (x .b .shown)) (search (both-left, both-right, ordered)) e in
         let g = implied (isNothing (x .b .shown)) (isNothing (x .c .shown)) (search (both-left, both-right, ordered)) f in
         let h = implied (isNothing (x .c .shown)) (isNothing (x .d .shown)) (search (both-left, both-right, ordered)) g in
         rw (
+          ended e,
           no-operand start (x .a) e,
           no-operand start (x .b) f,
           no-operand start (x .c) g,
@@ -126,7 +130,7 @@ module _ {k : Bool} (start : ℕ) (x : Items) (a : SoundItem k (x .a)) (b : Soun
     unfolding itemsText
     something-shown e =
         let r = item-read start (x .a) a (search (neither-left, neither-right, labels)) e in
-        rw (r .one, some-text start (x .a) (r .is-shown) (bytes " ")) (full-line t (joined (r .text) after-first))
+        rw (r .one, some-text start (x .a) (r .is-shown) (bytes " ")) (tailed-line t (joined (r .text) after-first) (tail-shown end))
 
     operands-line : Shown-line
     operands-line =
@@ -135,7 +139,7 @@ module _ {k : Bool} (start : ℕ) (x : Items) (a : SoundItem k (x .a)) (b : Soun
 -- ---- Prefix words
 
 prefix-line : {start : ℕ} {p : Prefix} {t u : List ℕ} {l : Read} (b : Bool) → PrefixText p t → LineText start l u
-    → LineText start (record { prefixes = shownIf b p (l .prefixes); mnemonic = l .mnemonic; operands = l .operands }) (when b t ++ u)
+    → LineText start (record { prefixes = shownIf b p (l .prefixes); mnemonic = l .mnemonic; operands = l .operands; tail = l .tail }) (when b t ++ u)
 prefix-line true s k = prefixed-line s k
 prefix-line false s k = k
 
@@ -151,13 +155,13 @@ line-parts h t = simp append-assoc
 pub sound-line : {k : Bool} (start : ℕ) (l : Line) → Sound k l → LineText start (meaning start l) (lineText l)
 unfolding meaning lineText
 sound-line start l s =
-    rw (line-parts (l .head) (itemsText (l .items)))
+    rw (line-parts (l .head) (itemsText (l .items) ++ tailWord (l .tail)))
     (prefix-line (l .head .xacquire) xacquire
     (prefix-line (l .head .xrelease) xrelease
     (prefix-line (l .head .lock) lock
     (prefix-line (l .head .rep) rep
     (prefix-line (l .head .repne) repne
-    (operands-line start (l .items) (s .a) (s .b) (s .c) (s .d) (s .labels) (s .ordered)
+    (operands-line start (l .items) (s .a) (s .b) (s .c) (s .d) (s .labels) (s .ordered) (l .tail) (s .ended)
     (mnemonic-name (l .head .name) (l .head .suffix) (s .name))))))))
 
 -- Of every sound line, wherever its instruction starts, the reader yields exactly what the line shows.

@@ -4,10 +4,11 @@
 use mathlib.Core.Path.{_≡_, refl}
 use mathlib.Core.Bool.{Bool, true, false, _||_, _&&_}
 use mathlib.Core.List.{List, [], _∷_, _++_, append-nil}
+use mathlib.Core.Logic.{inl, inr}
 use mathlib.Core.Option.{some}
-use Prim.Native.Nat.{ℕ, zero, suc, _+_, _≤_, _<_}
+use Prim.Native.Nat.{ℕ, zero, suc, _+_, _-_, _≤_, _<_}
 use native.Mathlib.Omega.{arith}
-use borrow.Author.Tests.{ne-eqb}
+use borrow.Author.Tests.{lt-ltb, ne-eqb}
 use lib.Dec.{T, eqb}
 use Rattle.text.specs.Choice.{when}
 use Rattle.text.specs.Words.{bytes}
@@ -16,28 +17,37 @@ use Rattle.names.specs.Labels.{labels as label-names, labelWord}
 use Rattle.names.specs.Registers.{registers as register-names, registerName, segments as segment-names, segmentName}
 use Rattle.operands.specs.declared.Label.{Label}
 use Rattle.operands.specs.declared.Label.the-variants as label
+use Rattle.operands.specs.declared.Broadcast.{Broadcast}
+use Rattle.operands.specs.declared.Broadcast.the-variants as broadcast
+use Rattle.operands.specs.declared.Tail.{Tail}
+use Rattle.operands.specs.declared.Tail.the-variants as tail
+use Rattle.bodies.specs.WellFormed.{IndexKept}
+use Rattle.numerals.specs.Decimals.{decimalWithin}
 use Rattle.lines.specs.Fronts.{labelText, segmentText}
-use Rattle.lines.specs.Text.{nameText}
+use Rattle.lines.specs.Brackets.{maskText}
+use Rattle.lines.specs.Items.{broadcastText}
+use Rattle.lines.specs.Text.{nameText, tailWord}
 use Rattle.lines.specs.declared.Name.{Name as Mnemonic}
 use Rattle.lines.specs.declared.Name.the-variants.{Opcode, Feni, Fdisi, Fsetpm}
 use Rattle.masm.specs.Tokens.{word, tokens, lookup}
-use Rattle.masm.specs.Expressions.{numeral, registers}
+use Rattle.masm.specs.Expressions.{numeral, decimal, registers}
 use Rattle.masm.specs.Operands.{widths, labels, synonyms, segments}
 use Rattle.masm.specs.Lines.{Prefix, prefixWords, Xacquire, Xrelease, Lock, Rep, Repne}
 use Rattle.masm.proofs.Tokens.{both, apart, leads-apart}
 use Rattle.masm.proofs.Numerals.{below, below-at}
 use Rattle.masm.proofs.Expressions.{RegisterText}
-use Rattle.masm.proofs.Leaves.{isAlone, register-text, isInside, inside-text, segment-text, no-segment, label-text, isMnemonic, mnemonic-text}
+use Rattle.masm.proofs.Decorations.{MaskText, no-mask, mask-name, BroadcastText, no-broadcast, broadcast-text, TailText, no-tail, sae-tail, nearest-tail, down-tail, up-tail, zero-tail}
+use Rattle.masm.proofs.Leaves.{isAlone, register-text, isDecimal, decimal-text, isInside, inside-text, segment-text, no-segment, label-text, isMnemonic, mnemonic-text}
 use Rattle.masm.proofs.Texts.{RegisterOperandText, SegmentText, LabelText, no-label, MnemonicText, PrefixText}
-use Rattle.readback.specs.Meaning.{segmentOf, labelOf, nameOf}
-use Rattle.readback.proofs.Sound.{Named, SoundName, isMissing}
+use Rattle.readback.specs.Meaning.{segmentOf, labelOf, maskOf, copiesOf, tailOf, nameOf}
+use Rattle.readback.proofs.Sound.{Named, SoundMask, SoundBroadcast, SoundName, isMissing}
 
 -- ---- Registers
 
 unless : (p q t : Bool) → p ≡ false → q ≡ false → T (p || q || t) → T t
 unless p q t e k h = rw (e, k) at h
 
-registers-read : (start : ℕ) → T (below 64 (λ r. eqb r 30 || eqb r 31 || isAlone start r (registerName r)))
+registers-read : (start : ℕ) → T (below 80 (λ r. eqb r 30 || eqb r 31 || isAlone start r (registerName r)))
 unfolding isAlone tokens widths labels synonyms registers registerName register-names
 registers-read start = tt
 
@@ -46,7 +56,7 @@ register-name {r} n =
     register-text
     (λ start.
     unless (eqb r 30) (eqb r 31) (isAlone start r (registerName r)) (ne-eqb r 30 (n .not-30)) (ne-eqb r 31 (n .not-31))
-    (below-at 64 (λ r. eqb r 30 || eqb r 31 || isAlone start r (registerName r)) (registers-read start) r (n .below)))
+    (below-at 80 (λ r. eqb r 30 || eqb r 31 || isAlone start r (registerName r)) (registers-read start) r (n .below)))
 
 pub st-name : RegisterOperandText 32 (bytes "st")
 unfolding isAlone tokens widths labels synonyms registers
@@ -59,6 +69,66 @@ inside-read = tt
 
 pub inside-name : {r : ℕ} → r < 16 → RegisterText r (registerName r)
 inside-name {r} h = inside-text (below-at 16 (λ r. isInside r (registerName r)) inside-read r h)
+
+-- xmm, ymm and zmm as an index
+vectors-read : T (below 24 (λ k. isInside (48 + k) (registerName (48 + k))))
+unfolding isInside tokens numeral registers registerName register-names
+vectors-read = tt
+
+vector-name : (k : ℕ) → k < 24 → RegisterText (48 + k) (registerName (48 + k))
+vector-name k h = inside-text (below-at 24 (λ k. isInside (48 + k) (registerName (48 + k))) vectors-read k h)
+
+pub index-name : {r : ℕ} → IndexKept r → RegisterText r (registerName r)
+index-name (inl h) = inside-name h
+index-name {r} (inr h) =
+    let place : 48 + (r - 48) ≡ r = omega (arith, h .0) in
+    rw place at (vector-name (r - 48) (omega (arith, h .0, h .1)))
+
+-- ---- Masks, broadcasts and tails
+
+-- `{k0}` to `{k7}`
+mask-parts : (k : ℕ) → k < 8 → maskText (72 + k) ≡ bytes "{k" ++ ((48 + k) ∷ bytes "}")
+unfolding maskText registerName register-names
+mask-parts zero h = refl
+mask-parts (suc zero) h = refl
+mask-parts (suc (suc zero)) h = refl
+mask-parts (suc (suc (suc zero))) h = refl
+mask-parts (suc (suc (suc (suc zero)))) h = refl
+mask-parts (suc (suc (suc (suc (suc zero))))) h = refl
+mask-parts (suc (suc (suc (suc (suc (suc zero)))))) h = refl
+mask-parts (suc (suc (suc (suc (suc (suc (suc zero))))))) h = refl
+mask-parts (suc (suc (suc (suc (suc (suc (suc (suc k)))))))) h = absurd (omega arith)
+
+mask-at : (k : ℕ) → k < 8 → MaskText (maskOf (72 + k)) (maskText (72 + k))
+mask-at k h =
+    let e : maskOf (72 + k) ≡ some (72 + k) = rw (lt-ltb 0 (72 + k) (omega arith)) in
+    rw (e, mask-parts k h) (mask-name k h)
+
+pub mask-shown : (mask : ℕ) → SoundMask mask → MaskText (maskOf mask) (maskText mask)
+unfolding maskText
+mask-shown mask (inl e) = rw e no-mask
+mask-shown mask (inr h) =
+    let place : 72 + (mask - 72) ≡ mask = omega (arith, h .0) in
+    rw place at (mask-at (mask - 72) (omega (arith, h .0, h .1)))
+
+-- N, of one digit or two
+decimals-read : T (below 17 (λ n. isDecimal n (decimalWithin 2 n)))
+unfolding isDecimal decimal decimalWithin
+decimals-read = tt
+
+pub broadcast-shown : (b : Broadcast) → SoundBroadcast b → BroadcastText (copiesOf b) (broadcastText b)
+unfolding broadcastText
+broadcast-shown broadcast.None h = no-broadcast
+broadcast-shown (broadcast.To n) h = broadcast-text (decimal-text (below-at 17 (λ n. isDecimal n (decimalWithin 2 n)) decimals-read n (omega (arith, h))))
+
+pub tail-shown : (t : Tail) → TailText (tailOf t) (tailWord t)
+unfolding tailWord
+tail-shown tail.None = no-tail
+tail-shown tail.Sae = sae-tail
+tail-shown tail.Nearest = nearest-tail
+tail-shown tail.Down = down-tail
+tail-shown tail.Up = up-tail
+tail-shown tail.Zero = zero-tail
 
 -- ---- Segments
 

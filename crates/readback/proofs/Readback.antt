@@ -23,6 +23,9 @@ use Rattle.arms.specs.Size.{sizeRefused}
 use Rattle.arms.proofs.Labelled.{plan-labels-there}
 use Rattle.arms.proofs.Lacking.{plan-lacking}
 use Rattle.arms.proofs.Ordered.{from-the-left}
+use Rattle.arms.proofs.Tails.{tail-after-operand}
+use Rattle.arms.specs.Decorations.{broadcastRefused}
+use Rattle.places.specs.Places.{itemsAt}
 use Rattle.lines.specs.Head.{nameOf, headOf}
 use Rattle.lines.specs.Text.{lineBy}
 use Rattle.lines.specs.declared.Name.the-variants.{Opcode, Feni, Fdisi, Fsetpm}
@@ -63,11 +66,11 @@ counted-from-left i w =
       implication (isAbsent (i .c)) (isAbsent (i .d)) (w .no-c),
     )
 
-line-sound : (mode : Mode) (arm : Arm) (i : Instruction) → WellFormed i → shapeRefused arm i ≡ false → sizeRefused arm i ≡ false
+line-sound : (mode : Mode) (arm : Arm) (i : Instruction) → WellFormed i → shapeRefused arm i ≡ false → sizeRefused arm i ≡ false → broadcastRefused arm i ≡ false
     → Sound (branches arm i) (lineBy mode arm (planOf arm i) i)
-unfolding headOf
-line-sound mode arm i w shape size =
-    let s = items-sound mode arm i w shape in
+unfolding headOf itemsAt
+line-sound mode arm i w shape size over =
+    let s = items-sound mode arm i w shape over in
     record {
       name = name-sound arm (i .opcode) (w .opcode);
       a = s .a;
@@ -76,6 +79,7 @@ line-sound mode arm i w shape size =
       d = s .d;
       labels = plan-labels-there mode arm i (planOf arm i) (plan-lacking arm i shape ∙ size);
       ordered = from-the-left mode arm i (counted-from-left i w) shape;
+      ended = tail-after-operand mode arm i;
     }
 
 module _ {asked : Asked} {body : List ℕ} (p : Printed asked body) where
@@ -88,12 +92,13 @@ module _ {asked : Asked} {body : List ℕ} (p : Printed asked body) where
   unfolding lineAt
   sound =
       let k = unrefused asked body (p .accepted) in
-      line-sound (modeOf asked) (armAt body) (instructionOf body) well (k .no-shape) (k .no-size)
+      line-sound (modeOf asked) (armAt body) (instructionOf body) well (k .no-shape) (k .no-size) (k .no-broadcast)
 
   -- ---- The theorems
 
   -- Of every accepted body, in both modes and from every start, the reader yields exactly what the line shows: prefix words, mnemonic, and
-  -- for each shown operand its label, segment, multiple of each register, displacement, immediate, or branch with its width.
+  -- for each shown operand its label, segment, multiple of each register, displacement, mask and N, immediate, or branch with its width; and
+  -- the tail.
   pub reads-back : (start : ℕ) → read start (recordText asked body) ≡ shows (meaning start (lineAt asked body))
   unfolding recordText
   reads-back start = reads start (lineAt asked body) sound

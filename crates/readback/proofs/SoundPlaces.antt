@@ -1,20 +1,24 @@
 -- Each operand that keeps the record rules is shown as a sound item at every place; so are the registers that a place names, and branches.
 -- Assumes nothing.
 use mathlib.Core.Path.{_≡_, refl, sym, _∙_}
-use mathlib.Core.Bool.{Bool, true, false, _&&_, true≢false}
-use Prim.Native.Nat.{ℕ, zero, suc, _+_, _^_, _≤_, _<_}
+use mathlib.Core.Bool.{Bool, true, false, cond, _&&_, true≢false, and-true}
+use mathlib.Core.Logic.{inl, inr, ⊎-elim}
+use Prim.Native.Nat.{ℕ, zero, suc, _+_, _/_, _%_, _^_, _≤_, _<_}
+use native.Mathlib.Nat.{mod-lt, div-add-mod'}
 use native.Mathlib.Decide.{decLt}
 use native.Mathlib.Omega.{arith}
-use borrow.Author.Tests.{lt-ltb, le-ltb, ltb-true, eqb-false, not-true}
+use borrow.Author.Tests.{lt-ltb, le-ltb, ltb-true, ltb-false, eqb-true, eqb-false, not-true}
 use lib.Dec.{eqb, lit<}
 use lib.IntN.{ℤ, pos, negsuc, natAbs, _+ℤ_}
-use Rattle.operands.specs.Kinds.{i8, isMemory}
-use Rattle.operands.specs.Parts.{operandIn, shownOf, segmentOf, immediateKind, immediateOf, isSt0, bare}
+use Rattle.operands.specs.Kinds.{i8, isRegister, isMemory}
+use Rattle.operands.specs.Parts.{operandIn, shownOf, segmentOf, registerOf, maskOf, isMaskRegister, immediateKind, immediateOf, isSt0, bare}
 use Rattle.operands.specs.RegisterBytes.{isRegisterByte, st0}
 use Rattle.operands.specs.declared.Operand.{Operand}
 use Rattle.operands.specs.declared.Operand.the-variants.{Absent, Register, Imm, Absolute16, Absolute32, Memory}
 use Rattle.operands.specs.declared.Instruction.{Instruction}
 use Rattle.operands.specs.declared.Label.{Label}
+use Rattle.operands.specs.declared.Broadcast.{Broadcast}
+use Rattle.operands.specs.declared.Broadcast.the-variants as broadcast
 use Rattle.operands.specs.declared.Shown.{Shown}
 use Rattle.operands.specs.declared.Shown.the-variants as shown
 use Rattle.bodies.specs.WellFormed.{Kept, WellFormed}
@@ -25,23 +29,37 @@ use Rattle.branches.specs.declared.Mode.the-variants.{Crate, Straight}
 use Rattle.branches.specs.Sums.{signed, shortSum, branchSum, branchShown}
 use Rattle.branches.proofs.Wrapping.{Within, signed-within}
 use Rattle.places.specs.Labels.{labelAt}
-use Rattle.places.specs.Places.{segmentShown, valueShown, operandShown, itemAt}
+use Rattle.places.specs.Places.{segmentShown, valueShown, maskShown, operandShown, itemAt}
+use Rattle.places.specs.declared.Mask.{Mask}
+use Rattle.places.specs.declared.Mask.the-variants.{Itself, Second}
+use Rattle.arms.specs.Missing.{isOver16, placeOver16}
 use Rattle.places.specs.declared.Segment.{Segment}
 use Rattle.places.specs.declared.Segment.the-variants.{Hidden, Shown as Own, UnlessDs}
 use Rattle.places.specs.declared.Place.{Place}
 use Rattle.places.specs.declared.Place.the-variants as place
-use Rattle.readback.proofs.Sound.{Named, SoundShown, isAddress, isBranchShown, SoundItem}
+use Rattle.readback.proofs.Sound.{Named, SoundShown, SoundMask, SoundBroadcast, Bare, isAddress, isBranchShown, SoundItem}
 
--- ---- What has neither label nor segment
+-- ---- What has nothing before it and nothing after it
+
+bare-itself : {x : Shown} → Bare (bare x)
+bare-itself = record { label = refl; segment = refl; mask = refl; broadcast = refl }
 
 sound-bare : {k : Bool} (x : Shown) → SoundShown x → isBranchShown x ≡ false → SoundItem k (bare x)
-sound-bare x s n = record { shown = s; segment = omega arith; bare = λ e. (refl, refl); branch = λ e. absurd (true≢false (sym e ∙ n)) }
+sound-bare x s n =
+    record {
+      shown = s;
+      segment = omega arith;
+      mask = inl refl;
+      broadcast = tt;
+      bare = λ e. bare-itself;
+      branch = λ e. absurd (true≢false (sym e ∙ n));
+    }
 
 -- a register byte has a name
 register-named : (reg : ℕ) → isRegisterByte reg ≡ true → Named reg
 register-named reg e =
     record {
-      below = ltb-true reg 64 (search (both-left, both-right, e));
+      below = ltb-true reg 80 (search (both-left, both-right, e));
       not-30 = eqb-false reg 30 (not-true (eqb reg 30) (search (both-left, both-right, e)));
       not-31 = eqb-false reg 31 (not-true (eqb reg 31) (search (both-left, both-right, e)));
     }
@@ -54,7 +72,7 @@ sound-operand (Register place reg) k = record { below = k .below; not-30 = k .no
 sound-operand (Imm kind value) k = k .fits
 sound-operand (Absolute16 segment address) k = k .1
 sound-operand (Absolute32 segment address) k = k .1
-sound-operand (Memory segment address) k = k .1
+sound-operand (Memory segment address mask) k = k .1 .0
 
 no-branch : (o : Operand) → isBranchShown (shownOf o) ≡ false
 no-branch Absent = refl
@@ -62,7 +80,7 @@ no-branch (Register place reg) = refl
 no-branch (Imm kind value) = refl
 no-branch (Absolute16 segment address) = refl
 no-branch (Absolute32 segment address) = refl
-no-branch (Memory segment address) = refl
+no-branch (Memory segment address mask) = refl
 
 -- memory alone is shown as an address; what is shortened is none
 address-shown : (short : Bool) (o : Operand) → isAddress (valueShown short o) ≡ isMemory o
@@ -71,13 +89,13 @@ address-shown true (Register place reg) = picked (λ (x : Shown). isAddress x �
 address-shown true (Imm kind value) = refl
 address-shown true (Absolute16 segment address) = refl
 address-shown true (Absolute32 segment address) = refl
-address-shown true (Memory segment address) = refl
+address-shown true (Memory segment address mask) = refl
 address-shown false Absent = refl
 address-shown false (Register place reg) = refl
 address-shown false (Imm kind value) = refl
 address-shown false (Absolute16 segment address) = refl
 address-shown false (Absolute32 segment address) = refl
-address-shown false (Memory segment address) = refl
+address-shown false (Memory segment address mask) = refl
 
 -- ---- Segments
 
@@ -87,7 +105,7 @@ segment-few (Register place reg) k = omega arith
 segment-few (Imm kind value) k = omega arith
 segment-few (Absolute16 segment address) k = k .0
 segment-few (Absolute32 segment address) k = k .0
-segment-few (Memory segment address) k = k .0
+segment-few (Memory segment address mask) k = k .0
 
 segment-none : (o : Operand) → isMemory o ≡ false → segmentOf o ≡ 0
 segment-none Absent e = refl
@@ -95,7 +113,7 @@ segment-none (Register place reg) e = refl
 segment-none (Imm kind value) e = refl
 segment-none (Absolute16 segment address) e = absurd (true≢false e)
 segment-none (Absolute32 segment address) e = absurd (true≢false e)
-segment-none (Memory segment address) e = absurd (true≢false e)
+segment-none (Memory segment address mask) e = absurd (true≢false e)
 
 shown-few : (segment : Segment) (o : Operand) → Kept o → segmentShown segment o ≤ 6
 shown-few Hidden o k = omega arith
@@ -107,14 +125,64 @@ shown-none Hidden o e = refl
 shown-none Own o e = segment-none o e
 shown-none UnlessDs o e = rw (segment-none o e)
 
+-- ---- Masks and broadcasts
+
+mask-kept : (o : Operand) → Kept o → SoundMask (maskOf o)
+mask-kept Absent k = inl refl
+mask-kept (Register place reg) k = inl refl
+mask-kept (Imm kind value) k = inl refl
+mask-kept (Absolute16 segment address) k = inl refl
+mask-kept (Absolute32 segment address) k = inl refl
+mask-kept (Memory segment address mask) k = ⊎-elim (λ e. inl e) (λ h. inr (omega (arith, h .0), h .1)) (k .1 .1)
+
+mask-none : (o : Operand) → isMemory o ≡ false → maskOf o ≡ 0
+mask-none Absent e = refl
+mask-none (Register place reg) e = refl
+mask-none (Imm kind value) e = refl
+mask-none (Absolute16 segment address) e = refl
+mask-none (Absolute32 segment address) e = refl
+mask-none (Memory segment address mask) e = absurd (true≢false e)
+
+-- operand 1 is a mask register where it is shown as one
+abbrev pub maskSound : Mask → Operand → Bool
+maskSound Itself second = true
+maskSound Second second = isMaskRegister second
+
+second-sound : (second : Operand) → isMaskRegister second ≡ true → SoundMask (registerOf second)
+second-sound second e =
+    let reg = registerOf second in
+    let bank : reg / 8 ≡ 9 = eqb-true (reg / 8) 9 (both-right (isRegister second) (eqb (reg / 8) 9) e) in
+    let number : reg % 8 < 8 = mod-lt reg (lit< tt) in
+    inr (omega (arith, div-add-mod' reg 8, bank), omega (arith, div-add-mod' reg 8, number, bank))
+
+mask-sound : (mask : Mask) (second o : Operand) → Kept o → maskSound mask second ≡ true → SoundMask (maskShown mask (registerOf second) o)
+mask-sound Itself second o k e = mask-kept o k
+mask-sound Second second o k e = picked SoundMask (isMemory o) (registerOf second) 0 (λ f. second-sound second e) (λ f. inl refl)
+
+mask-shown-none : (mask : Mask) (second : ℕ) (o : Operand) → isMemory o ≡ false → maskShown mask second o ≡ 0
+mask-shown-none Itself second o e = mask-none o e
+mask-shown-none Second second o e = rw e
+
+broadcast-sound : (b : Broadcast) (memory : Bool) → (isOver16 b && memory) ≡ false → SoundBroadcast (cond memory b broadcast.None)
+broadcast-sound broadcast.None true e = tt
+broadcast-sound broadcast.None false e = tt
+broadcast-sound (broadcast.To n) true e = ltb-false 16 n (simp and-true at e)
+broadcast-sound (broadcast.To n) false e = tt
+
 -- an operand at any place
-sound-shown : {b : Bool} (label : Label) (segment : Segment) (short : Bool) (o : Operand) → Kept o → SoundItem b (operandShown label segment short o)
+sound-shown : {c : Bool} (label : Label) (segment : Segment) (short : Bool) (mask : Mask) (second : Operand) (b : Broadcast) (o : Operand) → Kept o
+    → maskSound mask second ≡ true → (isOver16 b && isMemory o) ≡ false → SoundItem c (operandShown label segment short mask (registerOf second) b o)
 unfolding operandShown
-sound-shown label segment short o k =
+sound-shown label segment short mask second b o k masked few =
     record {
       shown = picked SoundShown (short && isSt0 o) shown.St (shownOf o) (λ e. tt) (λ e. sound-operand o k);
       segment = shown-few segment o k;
-      bare = λ e. let m : isMemory o ≡ false = sym (address-shown short o) ∙ e in (rw m, shown-none segment o m);
+      mask = mask-sound mask second o k masked;
+      broadcast = broadcast-sound b (isMemory o) few;
+      bare =
+          λ e.
+          let m : isMemory o ≡ false = sym (address-shown short o) ∙ e in
+          record { label = rw m; segment = shown-none segment o m; mask = mask-shown-none mask (registerOf second) o m; broadcast = rw m };
       branch =
           λ e.
           absurd
@@ -152,12 +220,12 @@ module _ (value length : ℕ) (l : length ≤ 15) where
 
 -- ---- Places
 
--- a register that a place names is one, and a place shows a branch only where `branches` says so
-abbrev pub placeSound : (branches : Bool) → Place → Bool
-placeSound branches place.Nothing = true
-placeSound branches (place.Register reg) = isRegisterByte reg
-placeSound branches place.Branch = branches
-placeSound branches (place.Operand k label segment short) = true
+-- a register that a place names is one, a place shows a branch only where `branches` says so, and operand 1 only where it is a mask
+abbrev pub placeSound : (branches : Bool) → Instruction → Place → Bool
+placeSound branches i place.Nothing = true
+placeSound branches i (place.Register reg) = isRegisterByte reg
+placeSound branches i place.Branch = branches
+placeSound branches i (place.Operand k label segment short mask b) = maskSound mask (i .b)
 
 module _ (mode : Mode) (arm : Arm) (i : Instruction) (w : WellFormed i) where
   operand-kept : (k : ℕ) → Kept (operandIn i k)
@@ -167,15 +235,17 @@ module _ (mode : Mode) (arm : Arm) (i : Instruction) (w : WellFormed i) where
   operand-kept (suc (suc (suc zero))) = w .d
   operand-kept (suc (suc (suc (suc k)))) = tt
 
-  pub sound-place : {b : Bool} (p : Place) → placeSound b p ≡ true → SoundItem b (itemAt mode arm i p)
+  pub sound-place : {c : Bool} (p : Place) → placeSound c i p ≡ true → placeOver16 i p ≡ false → SoundItem c (itemAt mode arm i p)
   unfolding itemAt branchShown
-  sound-place place.Nothing e = sound-bare shown.Nothing tt refl
-  sound-place (place.Register reg) e = sound-bare (shown.Name reg) (register-named reg e) refl
-  sound-place place.Branch e =
+  sound-place place.Nothing e o = sound-bare shown.Nothing tt refl
+  sound-place (place.Register reg) e o = sound-bare (shown.Name reg) (register-named reg e) refl
+  sound-place place.Branch e o =
       record {
         shown = size-fits (immediateOf (i .a)) (i .length) (w .length-most) mode (immediateKind (i .a));
         segment = omega arith;
-        bare = λ f. (refl, refl);
+        mask = inl refl;
+        broadcast = tt;
+        bare = λ f. bare-itself;
         branch = λ f. e;
       }
-  sound-place (place.Operand k label segment short) e = sound-shown (labelAt label) segment short (operandIn i k) (operand-kept k)
+  sound-place (place.Operand k label segment short mask b) e o = sound-shown (labelAt label) segment short mask (i .b) b (operandIn i k) (operand-kept k) e o

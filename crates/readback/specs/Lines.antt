@@ -10,11 +10,11 @@ use Rattle.masm.specs.Lines.{Reading, shows}
 
 -- a mnemonic and operands, with no prefix words
 abbrev pub says : String → List Operand → Reading
-says name os = shows (record { prefixes = []; mnemonic = bytes name; operands = os })
+says name os = shows (record { prefixes = []; mnemonic = bytes name; operands = os; tail = none })
 
 -- eax once and this number, a dword without a segment; eax is register 0
 abbrev pub fromEax : ℕ → Operand
-fromEax disp = address (some Dword) none (timesIn ((0, 1) ∷ [])) disp
+fromEax disp = address (some Dword) none (timesIn ((0, 1) ∷ [])) disp none none
 
 -- the table, in document 01's order; ecx is register 1, fs 28
 unfoldable pub readings : List (String × Reading)
@@ -34,4 +34,4 @@ readings =
     ("jmp near ptr $-7FFFFFFCh", says "jmp" (branch (some 32) 0x80001004 ∷ [])) ∷
     ("aam", says "aam" []) ∷
     ("aam 0Ah", says "aam" (immediate 10 ∷ [])) ∷
-    ("fxsave fs:[ecx]", says "fxsave" (address none (some 28) (timesIn ((1, 1) ∷ [])) 0 ∷ [])) ∷ []
+    ("fxsave fs:[ecx]", says "fxsave" (address none (some 28) (timesIn ((1, 1) ∷ [])) 0 none none ∷ [])) ∷ []

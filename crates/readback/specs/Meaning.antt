@@ -16,6 +16,10 @@ use Rattle.operands.specs.declared.BranchWord.{BranchWord}
 use Rattle.operands.specs.declared.BranchWord.the-variants as word
 use Rattle.operands.specs.declared.Shown.{Shown}
 use Rattle.operands.specs.declared.Shown.the-variants.{Nothing, Name, St, Number, Word, Dword, Bracket, Branch}
+use Rattle.operands.specs.declared.Broadcast.{Broadcast}
+use Rattle.operands.specs.declared.Broadcast.the-variants as broadcast
+use Rattle.operands.specs.declared.Tail.{Tail}
+use Rattle.operands.specs.declared.Tail.the-variants as tail
 use Rattle.operands.specs.declared.Item.{Item}
 use Rattle.operands.specs.RegisterBytes.{st0}
 use Rattle.branches.specs.Sums.{modulo}
@@ -26,6 +30,7 @@ use Rattle.lines.specs.declared.Name.the-variants.{Opcode, Feni, Fdisi, Fsetpm}
 use Rattle.masm.specs.Operands as masm
 use Rattle.masm.specs.Expressions.{Register}
 use Rattle.masm.specs.Operands.{Operand, Width, register, immediate, branch, address}
+use Rattle.masm.specs.Lines as lines
 use Rattle.masm.specs.Lines.{Line as Read, Prefix, Xacquire, Xrelease, Lock, Rep, Repne}
 
 -- ---- The head
@@ -84,6 +89,24 @@ widthOf word.Near = some 32
 abbrev pub segmentOf : ℕ → Option Register
 segmentOf s = cond (ltb 0 s) (some (23 + s)) none
 
+-- the mask after a bracket, by its register, where there is one
+abbrev pub maskOf : ℕ → Option Register
+maskOf mask = cond (ltb 0 mask) (some mask) none
+
+-- N of `{1toN}`
+abbrev pub copiesOf : Broadcast → Option ℕ
+copiesOf broadcast.None = none
+copiesOf (broadcast.To n) = some n
+
+-- the word at the end of a line
+abbrev pub tailOf : Tail → Option lines.Tail
+tailOf tail.None = none
+tailOf tail.Sae = some lines.Sae
+tailOf tail.Nearest = some lines.Nearest
+tailOf tail.Down = some lines.Down
+tailOf tail.Up = some lines.Up
+tailOf tail.Zero = some lines.Zero
+
 -- how many times a bracket counts a register: the base once, the index as often as the scale says
 abbrev pub timesOf : Address → Register → ℕ
 timesOf a r = cond (a .based && eqb r (a .base)) 1 0 + cond (a .indexed && eqb r (a .index)) (a .scale) 0
@@ -93,20 +116,21 @@ abbrev pub addedOf : Address → ℤ
 addedOf a = cond (a .displaced) (a .disp) (pos 0)
 
 -- what an operand of a line shows, or nothing: a register by its byte (`st` is st(0)), an immediate, an address, or a branch to
--- the sum of the start and the signed number after `$`. An absolute is an address that counts no register.
-abbrev pub operandOf : (start : ℕ) (label : Label) (segment : ℕ) → Shown → List Operand
-operandOf start label segment Nothing = []
-operandOf start label segment (Name reg) = register reg ∷ []
-operandOf start label segment St = register st0 ∷ []
-operandOf start label segment (Number value) = immediate (value % 2 ^ 32) ∷ []
-operandOf start label segment (Word value) = address (labelOf label) (segmentOf segment) (λ r. 0) (value % 2 ^ 32) ∷ []
-operandOf start label segment (Dword value) = address (labelOf label) (segmentOf segment) (λ r. 0) (value % 2 ^ 32) ∷ []
-operandOf start label segment (Bracket a) = address (labelOf label) (segmentOf segment) (timesOf a) (modulo (addedOf a)) ∷ []
-operandOf start label segment (Branch word minus size) = branch (widthOf word) (modulo (pos start +ℤ bySign minus size)) ∷ []
+-- the sum of the start and the signed number after `$`. An absolute is an address that counts no register. A mask and a broadcast are an
+-- address's.
+abbrev pub operandOf : (start : ℕ) (label : Label) (segment mask : ℕ) → Broadcast → Shown → List Operand
+operandOf start label segment mask b Nothing = []
+operandOf start label segment mask b (Name reg) = register reg ∷ []
+operandOf start label segment mask b St = register st0 ∷ []
+operandOf start label segment mask b (Number value) = immediate (value % 2 ^ 32) ∷ []
+operandOf start label segment mask b (Word value) = address (labelOf label) (segmentOf segment) (λ r. 0) (value % 2 ^ 32) (maskOf mask) (copiesOf b) ∷ []
+operandOf start label segment mask b (Dword value) = address (labelOf label) (segmentOf segment) (λ r. 0) (value % 2 ^ 32) (maskOf mask) (copiesOf b) ∷ []
+operandOf start label segment mask b (Bracket a) = address (labelOf label) (segmentOf segment) (timesOf a) (modulo (addedOf a)) (maskOf mask) (copiesOf b) ∷ []
+operandOf start label segment mask b (Branch word minus size) = branch (widthOf word) (modulo (pos start +ℤ bySign minus size)) ∷ []
 
--- an operand of a line with its label and segment
+-- an operand of a line with its label, segment, mask and broadcast
 abbrev pub itemOf : (start : ℕ) → Item → List Operand
-itemOf start x = operandOf start (x .label) (x .segment) (x .shown)
+itemOf start x = operandOf start (x .label) (x .segment) (x .mask) (x .broadcast) (x .shown)
 
 -- ---- The line
 
@@ -117,4 +141,5 @@ meaning start l =
       prefixes = prefixesOf (l .head);
       mnemonic = mnemonicOf (l .head);
       operands = itemOf start (l .items .a) ++ (itemOf start (l .items .b) ++ (itemOf start (l .items .c) ++ itemOf start (l .items .d)));
+      tail = tailOf (l .tail);
     }

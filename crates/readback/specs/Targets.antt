@@ -39,7 +39,7 @@ abbrev pub isTarget : Operand → Bool
 isTarget (register r) = false
 isTarget (immediate n) = false
 isTarget (branch width target) = true
-isTarget (address label segment times disp) = false
+isTarget (address label segment times disp mask copies) = false
 
 abbrev pub anyTarget : List Operand → Bool
 anyTarget [] = false

@@ -11,7 +11,7 @@ use Rattle.answers.specs.Refusals.{answerOf, room, None, NeverZero}
 use Rattle.answers.proofs.Firsts.{never-zero-by, answer-below, answer-not, none-or-answer}
 use Rattle.bodies.specs.Body.{countOf}
 use Rattle.bodies.specs.Refusals.{lengthRefused, fieldRefused}
-use Rattle.bodies.specs.Code.{Whole}
+use Rattle.bodies.specs.Code.{Whole, bodyAnswer}
 use Rattle.bodies.specs.Decoding.{instructionOf}
 use Rattle.bodies.proofs.Lengths.{whole}
 use Rattle.bodies.proofs.Picks.{neither-left, neither-right}
@@ -20,6 +20,7 @@ use Rattle.places.specs.declared.Plan.{Plan}
 use Rattle.arms.specs.Shape.{shapeRefused}
 use Rattle.arms.specs.Size.{sizeRefused}
 use Rattle.arms.specs.Plans.{planOf}
+use Rattle.arms.specs.Decorations.{broadcastRefused}
 use Rattle.arms.specs.Missing.{planLacks}
 use Rattle.places.specs.Order.{fromTheLeft}
 use Rattle.places.specs.Places.{itemsAt}
@@ -65,9 +66,23 @@ module _ (asked : Asked) (body : List ℕ) where
             unfolding judged refusals
             at-size e = rw (m, l, f, shape-kept, sym size-is ∙ e)
 
-            pub at-accepted : planLacks (instructionOf body) plan ≡ false → judged asked body ≡ Accepted arm plan
-            unfolding judged refusals
-            at-accepted e = rw (m, l, f, shape-kept, sym size-is ∙ e, p, a)
+            module _ (z : planLacks (instructionOf body) plan ≡ false) where
+              pub at-broadcast : broadcastRefused arm (instructionOf body) ≡ true → judged asked body ≡ Refused 7
+              unfolding judged refusals
+              at-broadcast e = rw (m, l, f, shape-kept, sym size-is ∙ z, rw a at e)
+
+              pub at-accepted : broadcastRefused arm (instructionOf body) ≡ false → judged asked body ≡ Accepted arm plan
+              unfolding judged refusals
+              at-accepted e = rw (m, l, f, shape-kept, sym size-is ∙ z, rw a at e, p, a)
+
+    -- answers 2 and 3 at once
+    pub at-body : {n : ℕ} → n ≡ bodyAnswer body → 0 < n → judged asked body ≡ Refused n
+    at-body {n} e some = go (lengthRefused body) (fieldRefused body) refl refl e
+      where
+        go : (p q : Bool) → lengthRefused body ≡ p → fieldRefused body ≡ q → n ≡ cond p 2 (cond q 3 0) → judged asked body ≡ Refused n
+        go true q l f k = rw k (at-length l)
+        go false true l f k = rw k (at-field l f)
+        go false false l f k = absurd (let z : ⊥ = omega (arith, k, some) in z)
 
   pub refusals-never-zero : NeverZero (refusals asked body)
   unfolding refusals
@@ -113,6 +128,7 @@ pub record Unrefused (asked : Asked) (body : List ℕ) : Type 0 where
   pub no-field : fieldRefused body ≡ false
   pub no-shape : shapeRefused (armAt body) (instructionOf body) ≡ false
   pub no-size : sizeRefused (armAt body) (instructionOf body) ≡ false
+  pub no-broadcast : broadcastRefused (armAt body) (instructionOf body) ≡ false
   pub held : Whole body
   pub few : countOf body ≤ 4
 
@@ -126,6 +142,7 @@ unrefused asked body e =
       no-field = n .1 .1 .0;
       no-shape = n .1 .1 .1 .0;
       no-size = n .1 .1 .1 .1 .0;
+      no-broadcast = n .1 .1 .1 .1 .1 .0;
       held = whole body (n .1 .0);
       few = few-counted body (n .1 .1 .0);
     }

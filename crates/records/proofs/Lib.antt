@@ -4,4 +4,5 @@ pub mod Unique
 pub mod InOrder
 pub mod PLines
 pub mod RecordLines
+pub mod OldLines
 pub mod Empty

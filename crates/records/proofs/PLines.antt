@@ -9,7 +9,8 @@ use Rattle.text.specs.Words.{bytes}
 use Rattle.answers.specs.Refusals.{answerOf}
 use Rattle.answers.specs.Outcomes.{outcomeOf}
 use Rattle.answers.proofs.Firsts.{answer-append}
-use Rattle.bodies.specs.Refusals.{lengthRefused, segmentKept, firstKept, secondKept, scaleKept, operandRefused, fieldRefused}
+use Rattle.bodies.specs.Body.{placeOf, anyMasked, isExtended}
+use Rattle.bodies.specs.Refusals.{lengthRefused, segmentKept, firstKept, secondKept, scaleKept, maskKept, operandRefused, fieldRefused}
 use Rattle.bodies.specs.Decoding.{immediate, dispIn, addressOf, operandOf, operandAt, instructionOf}
 use Rattle.branches.specs.Sums.{signed, branchSum, branchShown}
 use Rattle.names.specs.Opcodes.{arms, armOf, opcodes, mnemonics, mnemonic}
@@ -18,16 +19,17 @@ use Rattle.names.specs.Labels.{labels, labelWord}
 use Rattle.places.specs.Labels.{labelAt}
 use Rattle.places.specs.Places.{operandShown, itemAt, itemsAt}
 use Rattle.arms.specs.Labels.{sizeLabel, generalLabel}
-use Rattle.arms.specs.Plans.{spread, general, planOf}
+use Rattle.arms.specs.Decorations.{broadcastCount, tailOf, broadcastRefused}
+use Rattle.arms.specs.Plans.{spread, general, placesOf, decorated, planOf}
 use Rattle.arms.specs.Shape.{shapeRefused}
 use Rattle.arms.specs.Size.{sizeRefused}
 use Rattle.numerals.specs.Digits.{digit, digits, placesFrom, places}
 use Rattle.numerals.specs.Numerals.{figure, numeral, displacement}
 use Rattle.lines.specs.Fronts.{labelText, segmentText}
-use Rattle.lines.specs.Brackets.{baseText, indexText, tailText, bracketText}
-use Rattle.lines.specs.Items.{branchText, shownText, itemText}
+use Rattle.lines.specs.Brackets.{baseText, indexText, tailText, bracketText, maskText}
+use Rattle.lines.specs.Items.{branchText, shownText, broadcastText, itemText}
 use Rattle.lines.specs.Head.{headOf}
-use Rattle.lines.specs.Text.{repsText, prefixesText, nameText, headText, partedText, itemsText, lineText}
+use Rattle.lines.specs.Text.{repsText, prefixesText, nameText, headText, partedText, itemsText, tailWord, lineText}
 use Rattle.records.specs.Records.{refusals, lineAt, recordText, recordOutcome}
 use Rattle.records.specs.Compared.{asking, Compared, lines, Prints, All, Holds}
 use Rattle.records.proofs.Judging.{refusals-never-zero}
@@ -43,7 +45,7 @@ abbrev printed : List ℕ → ℕ → Comes
 printed text mode = record { answer = 0; text = text }
 
 computed : map (λ (c : Compared). map (comes (c .body)) (c .modes)) lines ≡ map (λ (c : Compared). map (printed (bytes (c .line))) (c .modes)) lines
-unfolding lines refusals recordText lineAt lengthRefused fieldRefused operandRefused segmentKept firstKept secondKept scaleKept shapeRefused sizeRefused armOf arms opcodes instructionOf operandAt operandOf immediate dispIn addressOf planOf spread general generalLabel sizeLabel labelAt operandShown itemAt itemsAt signed branchSum branchShown headOf digit digits placesFrom places figure numeral displacement mnemonics mnemonic registers registerName segments segmentName labels labelWord labelText segmentText baseText indexText tailText bracketText branchText shownText itemText repsText prefixesText nameText headText partedText itemsText lineText
+unfolding lines refusals recordText lineAt placeOf anyMasked isExtended maskKept broadcastRefused broadcastCount tailOf decorated placesOf maskText broadcastText tailWord lengthRefused fieldRefused operandRefused segmentKept firstKept secondKept scaleKept shapeRefused sizeRefused armOf arms opcodes instructionOf operandAt operandOf immediate dispIn addressOf planOf spread general generalLabel sizeLabel labelAt operandShown itemAt itemsAt signed branchSum branchShown headOf digit digits placesFrom places figure numeral displacement mnemonics mnemonic registers registerName segments segmentName labels labelWord labelText segmentText baseText indexText tailText bracketText branchText shownText itemText repsText prefixesText nameText headText partedText itemsText lineText
 computed = refl
 
 prints : (text : List ℕ) (body : List ℕ) (mode : ℕ) → comes body mode ≡ printed text mode → Prints mode body text

@@ -12,6 +12,7 @@ use Rattle.answers.proofs.Lines.{refused-most}
 use Rattle.answers.proofs.Unique.{none-or-some}
 use Rattle.bodies.specs.Body.{countOf}
 use Rattle.bodies.specs.Decoding.{instructionOf}
+use Rattle.bodies.proofs.Lengths.{length-least}
 use Rattle.arms.specs.Plans.{planOf}
 use Rattle.lines.specs.Text.{lineText, longestLine}
 use Rattle.lines.proofs.Rooms.{line-within}
@@ -31,7 +32,7 @@ module _ (asked : Asked) (body : List ℕ) where
       go (inl e) = rw (line-accepted asked body e) (f e)
       go (inr some) = rw (line-refused asked body refl some) (g (answerOf (refusals asked body)))
 
-  -- "No line exceeds 256 bytes", and its newline
+  -- "A line may have 320 bytes", and its newline
   pub record-line-short : length (recordLine asked body) ≤ longestLine + 1
   record-line-short =
       by-answer (λ (t : List ℕ). length t ≤ longestLine + 1)
@@ -47,5 +48,5 @@ module _ (asked : Asked) (body : List ℕ) where
   pub record-line-within : length (recordLine asked body) ≤ 9 * (2 + length body)
   record-line-within =
       by-answer (λ (t : List ℕ). length t ≤ 9 * (2 + length body))
-      (λ e. omega (arith, length-append (recordText asked body) newline, text-within e, unrefused asked body e .held .stored))
+      (λ e. omega (arith, length-append (recordText asked body) newline, text-within e, length-least body (unrefused asked body e .held)))
       (λ n. omega (arith, refused-most n))

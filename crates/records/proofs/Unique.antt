@@ -22,7 +22,7 @@ module _ (asked : Asked) (body buf : List ℕ) where
   unfolding recordOutcome
   record-only met = only (room-numbered (refusals asked body) (refusals-never-zero asked body) (recordText asked body) buf) met
 
-  -- "The lowest number that applies is given": document 01's numbers ascend in the order in which they are asked
-  pub record-ascends : ascending (withRoom (refusals asked body) (recordText asked body) buf) ≡ true
+  -- "The lowest number that applies is given": the numbers ascend in the order in which they are asked, but for room, which is asked last
+  pub record-ascends : ascending (refusals asked body) ≡ true
   unfolding refusals
   record-ascends = refl

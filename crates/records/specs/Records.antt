@@ -5,7 +5,7 @@ use mathlib.Core.Bool.{Bool, cond}
 use mathlib.Core.List.{List, [], _∷_}
 use Prim.Native.Nat.{ℕ}
 use lib.Dec.{ltb, eqb}
-use Rattle.answers.specs.Refusals.{Refusal, refusal, mode, length, field, shape, size, answerOf}
+use Rattle.answers.specs.Refusals.{Refusal, refusal, mode, length, field, shape, size, broadcast, answerOf}
 use Rattle.answers.specs.Outcomes.{Outcome, outcomeOf, withRoom}
 use Rattle.bodies.specs.Refusals.{lengthRefused, fieldRefused}
 use Rattle.bodies.specs.Decoding.{instructionOf}
@@ -15,6 +15,7 @@ use Rattle.names.specs.declared.Arm.{Arm}
 use Rattle.names.specs.Opcodes.{armOf}
 use Rattle.arms.specs.Shape.{shapeRefused}
 use Rattle.arms.specs.Size.{sizeRefused}
+use Rattle.arms.specs.Decorations.{broadcastRefused}
 use Rattle.arms.specs.Plans.{planOf}
 use Rattle.lines.specs.declared.Line.{Line}
 use Rattle.lines.specs.Text.{lineBy, lineText}
@@ -32,7 +33,7 @@ modeOf asked = cond (eqb (asked .mode) 1) Straight Crate
 abbrev pub armAt : List ℕ → Arm
 armAt body = armOf (instructionOf body .opcode)
 
--- a record's refusals before there is a buffer, each with its own rule
+-- a record's refusals before there is a buffer, each with its own rule; document 02: 7 is asked "after 5 and before room"
 unfoldable pub refusals : Asked → List ℕ → List Refusal
 refusals asked body =
     refusal mode (modeRefused asked)
@@ -40,6 +41,7 @@ refusals asked body =
     ∷ refusal field (fieldRefused body)
     ∷ refusal shape (shapeRefused (armAt body) (instructionOf body))
     ∷ refusal size (sizeRefused (armAt body) (instructionOf body))
+    ∷ refusal broadcast (broadcastRefused (armAt body) (instructionOf body))
     ∷ []
 
 -- what the record's line shows, and its text

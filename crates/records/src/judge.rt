@@ -5,11 +5,11 @@ ghost use Rattle.records.specs.Records.{modeOf};
 ghost use Rattle.records.specs.Judged.{judged};
 use crate::Asked;
 use crate::Judged;
-use answers::FIELD;
-use answers::LENGTH;
+use answers::BROADCAST;
 use answers::MODE;
 use answers::SHAPE;
 use answers::SIZE;
+use arms::decorations::broadcast_refused;
 use arms::plans::plan_of;
 use arms::shapes::shape_refused;
 use arms::sizes::plan_lacks;
@@ -18,7 +18,8 @@ use bodies::rules;
 use branches::Mode;
 use names::opcodes;
 
-// The refusals in the order of document 01's table. That of size is read off the plan.
+// The refusals in the order of document 01's table, and document 02's after them. Answers 2 and 3 are asked at once, so that a record of
+// document 01's own is looked through once; those of size and broadcast are read off the plan.
 pub fn judge(arms: &opcodes::Arms, body: &[u8], asked: Asked) -> Judged
     requires { ⌜ ArmTable (now arms) ⌝ }
     ensures { λ r. ⌜ r ≡ judged asked (now (body .entry)) ⌝ }
@@ -26,11 +27,9 @@ pub fn judge(arms: &opcodes::Arms, body: &[u8], asked: Asked) -> Judged
     if 1 < asked.mode {
         return Judged::Refused(MODE);
     }
-    if rules::length_refused(body) {
-        return Judged::Refused(LENGTH);
-    }
-    if rules::field_refused(body) {
-        return Judged::Refused(FIELD);
+    let number = rules::refused(body);
+    if 0 < number {
+        return Judged::Refused(number);
     }
     let arm = opcodes::arm_of(arms, fields::opcode(body));
     if shape_refused(arm, body) {
@@ -39,6 +38,9 @@ pub fn judge(arms: &opcodes::Arms, body: &[u8], asked: Asked) -> Judged
     let plan = plan_of(arm, body);
     if plan_lacks(body, plan) {
         return Judged::Refused(SIZE);
+    }
+    if broadcast_refused(arm, body, plan) {
+        return Judged::Refused(BROADCAST);
     }
     Judged::Accepted { arm, plan }
 }

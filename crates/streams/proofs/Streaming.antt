@@ -8,7 +8,7 @@ use native.Mathlib.Omega.{arith}
 use lib.Dec.{ltb, leb, lit≤}
 use lib.ListN.{length, take, drop, length-append, length-drop, List·getD-append, drop-of-length-le}
 use lib.Seq.{drop-length, length-take-le, take-append-le, drop-append-le, drop-append-add, getD-take, getD-drop, drop-drop}
-use borrow.Author.Tests.{lt-ltb, le-ltb, le-leb, lt-leb, ne-eqb, ltb-true, ltb-false}
+use borrow.Author.Tests.{lt-ltb, le-ltb, le-leb, lt-leb, ltb-true, ltb-false}
 use Rattle.text.specs.Choice.{when}
 use Rattle.text.proofs.Choosing.{cond-by}
 use Rattle.text.specs.Words.{join}
@@ -17,8 +17,8 @@ use Rattle.answers.specs.Lines.{refusedLine}
 use Rattle.frames.specs.Numbers.{byte}
 use Rattle.frames.specs.Frames.{bodyLength, isWhole, bodyOf, knownVersion}
 use Rattle.frames.proofs.FrameAt.{size-whole, size-cut}
-use Rattle.bodies.specs.Body.{countOf}
-use Rattle.bodies.specs.Refusals.{lengthRefused, longestBody}
+use Rattle.bodies.specs.Refusals.{longestBody}
+use Rattle.bodies.proofs.Lengths.{long-refused as longer-refused}
 use Rattle.bodies.specs.WellFormed.{Bytes}
 use Rattle.records.specs.declared.Asked.{Asked}
 use Rattle.records.specs.Records.{refusals}
@@ -34,19 +34,13 @@ use Rattle.streams.proofs.Stepping.{Bounded, bounded}
 use Rattle.listings.proofs.LineLaws.{lines-none, lines-some}
 use Rattle.listings.proofs.Fronts.{front-whole, front-cut}
 
--- no record's body is longer: "14 + 5n (n as stored)", and n is a byte
-length-refused : (body : List ℕ) → longestBody < length body → byte body 13 < 2 ^ 8 → lengthRefused body ≡ true
-unfolding lengthRefused
-length-refused body long small =
-    rw (le-ltb (length body) 14 (omega arith), ne-eqb (length body) (14 + 5 * countOf body) (λ e. omega arith))
-
 -- the number is known: mode 0 or 1
 abbrev pub Known : Asked → Type 0
 Known asked = asked .mode ≤ 1
 
 pub long-answer : (asked : Asked) (body : List ℕ) → Known asked → longestBody < length body → byte body 13 < 2 ^ 8 → answerOf (refusals asked body) ≡ lengthNumber
 unfolding refusals
-long-answer asked body known long small = rw (le-ltb 1 (asked .mode) known, length-refused body long small)
+long-answer asked body known long small = rw (le-ltb 1 (asked .mode) known, longer-refused body long small)
 
 long-refused : (asked : Asked) (body : List ℕ) → Known asked → longestBody < length body → byte body 13 < 2 ^ 8 → recordLine asked body ≡ refusedLine lengthNumber
 long-refused asked body known long small =

@@ -7,11 +7,11 @@ use mathlib.Core.Path.{sym}
 use denote.Ref.{now}
 use Rattle.operands.specs.Kinds.{isAbsent, isMemory}
 use Rattle.names.specs.declared.Arm.{Arm}
-use Rattle.names.specs.declared.Arm.the-variants.{Hreset, Lsl, Prefetch, Sgdt, Lss, Invlpgb, Scas, Lods, Incssp, Wrss, Pblendvb, Lea, Fcom, Fadd, Fbld, Fbstp}
+use Rattle.names.specs.declared.Arm.the-variants.{Hreset, Lsl, Prefetch, Sgdt, Lss, Invlpgb, Scas, Lods, Incssp, Wrss, Pblendvb, Lea, Fcom, Fadd, Fbld, Fbstp, ScatterDword, ScatterQword}
 use Rattle.names.proofs.ArmGroups.{at-group, of-group, others}
 use Rattle.bodies.specs.Decoding.{instructionOf}
-use Rattle.arms.specs.Shape.{shapeRefused}
-use Rattle.arms.proofs.ByArm.{first-there, first-memory, both-there, at-lsl, at-lss, at-invlpgb, at-lods, at-incssp, at-wrss, at-fcom, at-fadd, at-fbld}
+use Rattle.arms.specs.Shape.{scatterRefused, shapeRefused}
+use Rattle.arms.proofs.ByArm.{first-there, first-memory, both-there, at-lsl, at-lss, at-invlpgb, at-lods, at-incssp, at-wrss, at-fcom, at-fadd, at-fbld, scattering}
 use borrow.Author.Needs.{needs}
 use Rattle.arms.proofs.shapes.shape_refused.Statement.{statement}
 use Rattle.arms.proofs.shapes.shape_refused.Tie as tie
@@ -19,7 +19,7 @@ use Rattle.arms.proofs.shapes.shape_refused.Tie as tie
 -- the arms that refuse a shape
 abbrev refusing : List Arm
 refusing =
-    Hreset ∷ Lsl ∷ Prefetch ∷ Sgdt ∷ Lss ∷ Invlpgb ∷ Scas ∷ Lods ∷ Incssp ∷ Wrss ∷ Pblendvb ∷ Lea ∷ Fcom ∷ Fadd ∷ Fbld ∷ Fbstp ∷ []
+    Hreset ∷ Lsl ∷ Prefetch ∷ Sgdt ∷ Lss ∷ Invlpgb ∷ Scas ∷ Lods ∷ Incssp ∷ Wrss ∷ Pblendvb ∷ Lea ∷ Fcom ∷ Fadd ∷ Fbld ∷ Fbstp ∷ ScatterDword ∷ ScatterQword ∷ []
 
 returns : tie.Need-returns
 unfolding instructionOf
@@ -73,8 +73,13 @@ unfolding instructionOf
 returns-12 c = rw ((c .fbld-refused) .ensures, (c .before .enum-told9) .given .1, at-fbld)
 
 returns-13 : tie.Need-returns-13
+unfolding instructionOf
+returns-13 c = let i = instructionOf (now ((c .before .before .before .args) .body)) in
+    rw ((c .scatter-refused) .ensures, at-group (λ (x : Arm). shapeRefused x i) (scatterRefused (i .a) (i .b) (i .c)) (ScatterDword ∷ ScatterQword ∷ []) ((c .before .before .before .args) .arm) (scattering i) ((c .before .match) .keys13))
+
+returns-14 : tie.Need-returns-14
 unfolding shapeRefused
-returns-13 c = sym (of-group (λ (x : Arm). shapeRefused x (instructionOf (now ((c .before .before .args) .body)))) false (others refusing) ((c .before .before .args) .arm) tt ((c .match) .keys13))
+returns-14 c = sym (of-group (λ (x : Arm). shapeRefused x (instructionOf (now ((c .before .before .args) .body)))) false (others refusing) ((c .before .before .args) .arm) tt ((c .match) .keys14))
 
 pub shape-refused-spec : {M : Type 1} → statement M
 shape-refused-spec =
@@ -82,5 +87,5 @@ shape-refused-spec =
     (tie.spec
     (search needs) (search needs) (search needs) (search needs) (search needs) (search needs) (search needs) (search needs) (search needs)
     (search needs) (search needs) (search needs) (search needs) (search needs) (search needs) (search needs) (search needs) (search needs)
-    (search needs) (search needs) (search needs) (search needs) (search needs) (search needs) (search needs) (search needs) returns
-    returns-2 returns-3 returns-4 returns-5 returns-6 returns-7 returns-8 returns-9 returns-10 returns-11 returns-12 returns-13)
+    (search needs) (search needs) (search needs) (search needs) (search needs) (search needs) (search needs) (search needs) (search needs) returns
+    returns-2 returns-3 returns-4 returns-5 returns-6 returns-7 returns-8 returns-9 returns-10 returns-11 returns-12 returns-13 returns-14)

@@ -6,7 +6,7 @@ use mathlib.Core.List.{List, [], _∷_, _++_}
 use mathlib.Core.Path.{sym}
 use denote.Ref.{now}
 use Rattle.names.specs.declared.Arm.{Arm}
-use Rattle.names.specs.declared.Arm.the-variants.{General, Qword, Mmword, Jmpf, Callf, Lds, Movs, Cmps, Branch, Call, Xbegin, Lsl, Nop, Incssp, Wrss, Aam}
+use Rattle.names.specs.declared.Arm.the-variants.{General, Qword, Mmword, Jmpf, Callf, Lds, Movs, Cmps, Singles, Doubles, Branch, Call, Xbegin, Lsl, Nop, Incssp, Wrss, Aam}
 use Rattle.bodies.specs.Decoding.{instructionOf}
 use Rattle.arms.specs.Size.{generalPath}
 use Rattle.names.proofs.ArmGroups.{at-group, of-group, others}
@@ -17,7 +17,7 @@ use Rattle.arms.proofs.tests.is_general.Tie as tie
 
 -- the arms of the general path, and those that leave some records to it
 abbrev own : List Arm
-own = General ∷ Qword ∷ Mmword ∷ Jmpf ∷ Callf ∷ Lds ∷ Movs ∷ Cmps ∷ Incssp ∷ Wrss ∷ []
+own = General ∷ Qword ∷ Mmword ∷ Jmpf ∷ Callf ∷ Lds ∷ Movs ∷ Cmps ∷ Singles ∷ Doubles ∷ Incssp ∷ Wrss ∷ []
 
 abbrev leaving : List Arm
 leaving = Branch ∷ Call ∷ Xbegin ∷ Lsl ∷ Nop ∷ Aam ∷ []

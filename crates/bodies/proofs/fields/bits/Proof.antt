@@ -1,0 +1,17 @@
+-- `bodies::fields::bits` meets its contract: the two last bytes are the ones after the operands.
+-- Assumes nothing.
+use mathlib.Core.Path.{sym, _∙_}
+use denote.Ref.{now}
+use Rattle.bodies.proofs.Lengths.{bits-extended}
+use borrow.Author.Needs.{needs}
+use Rattle.bodies.proofs.fields.bits.Statement.{statement}
+use Rattle.bodies.proofs.fields.bits.Tie as tie
+
+returns : tie.Need-returns
+returns c = sym (bits-extended (now ((c .before .before .before .before .args) .body)) (c .before .before .before .before .pre) (sym ((c .before .before .is-extended) .ensures) ∙ (c .before .if1) .taken))
+
+returns-2 : tie.Need-returns-2
+returns-2 c = rw (sym ((c .before .is-extended) .ensures) ∙ (c .if1) .left)
+
+pub bits-spec : {M : Type 1} → statement M
+bits-spec = tie.close (tie.spec (search needs) (λ c. search needs) (λ c. search needs) returns returns-2)
