@@ -2,7 +2,7 @@
 
 use crate::line::Line;
 use crate::record::{Operand, Record};
-use crate::tables::{label, NAMES};
+use crate::tables::{label, NAMES, ROUNDINGS};
 
 #[derive(Clone, Copy, PartialEq)]
 pub(crate) enum Arm {
@@ -40,6 +40,9 @@ pub(crate) enum Arm {
     Fadd,
     Fbld,
     Fbstp,
+    /// VPSCATTER, by the label of its memory
+    ScatterDword,
+    ScatterQword,
 }
 
 use Arm::*;
@@ -47,6 +50,9 @@ use Arm::*;
 /// The branches that have no short form: straight lines put no word on them.
 const CALL: u8 = 1;
 const XBEGIN: u8 = 22;
+
+/// The flag of `{1toN}`.
+const BROADCAST: u8 = 64;
 
 #[inline]
 fn arm(opcode: u8) -> Arm {
@@ -85,13 +91,15 @@ fn arm(opcode: u8) -> Arm {
         112..=141 => Fadd,
         142..=147 => Fbld,
         148..=153 => Fbstp,
+        154 | 155 => ScatterDword,
+        156 | 157 => ScatterQword,
         _ => General,
     }
 }
 
-/// The arm that prints the record, special cases settled, or answer 4 or 5.
+/// The arm that prints the record, special cases settled, or answer 4, 5 or 7.
 #[inline]
-pub(crate) fn decide(record: &Record) -> Result<Arm, u64> {
+pub(crate) fn decide<const EXTENDED: bool>(record: &Record) -> Result<Arm, u64> {
     let [a, b, c, _] = &record.operands;
     let size = record.mem_size;
     let named = !label(size).is_empty();
@@ -119,6 +127,10 @@ pub(crate) fn decide(record: &Record) -> Result<Arm, u64> {
         ),
         Fbld => (b.is_memory() || b.kind == 2, named || size == 10 || !b.is_memory()),
         Fbstp => (a.kind != 0, named || size == 10 || !a.is_memory()),
+        // bank 9 is k0 to k7
+        ScatterDword | ScatterQword => {
+            (a.is_memory() && a.mask == 0 && b.is_register() && b.bank() == 9 && c.kind != 0, true)
+        }
         _ => {
             let shape = match arm {
                 Lsl => a.is_register(),
@@ -139,7 +151,7 @@ pub(crate) fn decide(record: &Record) -> Result<Arm, u64> {
                 Branch | Xbegin | Nop | Aam | Lsl | Incssp | Wrss => General,
                 arm => arm,
             };
-            return if !shape { Err(4) } else if !sized { Err(5) } else { Ok(general) };
+            return if !shape { Err(4) } else if !sized { Err(5) } else { counted::<EXTENDED>(record).map(|()| general) };
         }
     };
     if !shape {
@@ -151,8 +163,34 @@ pub(crate) fn decide(record: &Record) -> Result<Arm, u64> {
     }
 }
 
+/// Answer 7: the general path would show a count above 16.
 #[inline]
-fn head(record: &Record, line: &mut Line) {
+fn counted<const EXTENDED: bool>(record: &Record) -> Result<(), u64> {
+    let over = |place: usize| record.operands[place].is_memory() && broadcast(record, place) > 16;
+    if EXTENDED && record.flags & BROADCAST != 0 && (1..4).any(over) {
+        Err(7)
+    } else {
+        Ok(())
+    }
+}
+
+/// The N of `{1toN}`: for the opcodes of 000's rule by the length bits, else by what the operand before holds.
+fn broadcast(record: &Record, place: usize) -> u8 {
+    let by_length = |l, lp, neither| match record.length_bits {
+        1 | 3 => l,
+        2 => lp,
+        _ => neither,
+    };
+    match record.opcode {
+        // VFPCLASSPS, VCVTNEPS2BF16
+        166 | 168 => by_length(8, 16, 4),
+        158..=174 => by_length(4, 8, 2),
+        _ => record.operands[place - 1].width().checked_div(record.mem_size).unwrap_or(0),
+    }
+}
+
+#[inline]
+fn head<const EXTENDED: bool>(record: &Record, line: &mut Line<EXTENDED>) {
     let flags = record.flags;
     if flags & 0x1f != 0 {
         if flags & 1 != 0 {
@@ -178,7 +216,7 @@ fn head(record: &Record, line: &mut Line) {
 
 /// The line of a record that `decide` gave this arm.
 #[inline]
-pub(crate) fn print(record: &Record, arm: Arm, mode: u32, line: &mut Line) {
+pub(crate) fn print<const EXTENDED: bool>(record: &Record, arm: Arm, mode: u32, line: &mut Line<EXTENDED>) {
     let [a, b, c, _] = &record.operands;
     let size = record.mem_size;
     head(record, line);
@@ -293,6 +331,13 @@ pub(crate) fn print(record: &Record, arm: Arm, mode: u32, line: &mut Line) {
             line.word(" ");
             line.labelled(record, a, float_label(size));
         }
+        ScatterDword | ScatterQword => {
+            line.word(if arm == ScatterDword { " dword ptr " } else { " qword ptr " });
+            line.operand(record, a);
+            line.mask(b.first);
+            line.word(", ");
+            line.operand(record, c);
+        }
         _ => general(record, arm, line),
     }
 }
@@ -306,10 +351,10 @@ fn float_label(size: u8) -> &'static str {
 }
 
 #[inline]
-fn general(record: &Record, arm: Arm, line: &mut Line) {
+fn general<const EXTENDED: bool>(record: &Record, arm: Arm, line: &mut Line<EXTENDED>) {
     let size = record.mem_size;
     // banks 5 to 7 are mm, xmm and ymm
-    let vector = |operand: &Operand| operand.is_register() && operand.first >= 40;
+    let vector = |operand: &Operand| operand.is_register() && (40..64).contains(&operand.first);
     let plain = if size == 8
         && arm != Qword
         && (arm == Mmword || record.operands.iter().any(vector))
@@ -328,5 +373,11 @@ fn general(record: &Record, arm: Arm, line: &mut Line) {
             }
         }
         line.operand(record, operand);
+        if EXTENDED && record.flags & BROADCAST != 0 && place > 0 && operand.is_memory() {
+            line.broadcast(broadcast(record, place));
+        }
+    }
+    if EXTENDED && record.tail != 0 && record.count > 0 {
+        line.word(if record.tail == 1 { " {sae}" } else { ROUNDINGS[record.length_bits as usize & 3] });
     }
 }

@@ -18,8 +18,8 @@ use record::Record;
 
 const MAX_LISTING: usize = 16_777_216;
 
-/// The longest line is 208 bytes; a line's buffer has room to spare.
-const LINE: usize = 256;
+/// The longest line is 257 bytes; a line's buffer has room to spare.
+const LINE: usize = 320;
 
 fn answer(number: u64, length: usize) -> u64 {
     number << 32 | length as u64
@@ -27,10 +27,24 @@ fn answer(number: u64, length: usize) -> u64 {
 
 /// The line in `line`'s first bytes, or the answer that refuses it.
 fn print(body: &[u8], mode: u32, line: &mut [u8; LINE]) -> Result<usize, u64> {
-    let record = Record::read(body)?;
-    let arm = arms::decide(&record)?;
-    let mut line = Line { text: line, at: 0 };
-    arms::print(&record, arm, mode, &mut line);
+    match Record::read_plain(body) {
+        Some(record) => print_read::<false>(&record, mode, line),
+        None => print_any(body, mode, line),
+    }
+}
+
+#[cold]
+#[inline(never)]
+fn print_any(body: &[u8], mode: u32, line: &mut [u8; LINE]) -> Result<usize, u64> {
+    print_read::<true>(&Record::read(body)?, mode, line)
+}
+
+/// Plain records have code of their own, which asks for no masks, counts and tails: so extended ones cost them nothing.
+#[inline(always)]
+fn print_read<const EXTENDED: bool>(record: &Record, mode: u32, line: &mut [u8; LINE]) -> Result<usize, u64> {
+    let arm = arms::decide::<EXTENDED>(record)?;
+    let mut line = Line::<EXTENDED> { text: line, at: 0 };
+    arms::print(record, arm, mode, &mut line);
     Ok(line.at)
 }
 
@@ -62,9 +76,9 @@ pub fn print_listing(listing: &[u8], mode: u32, text: &mut [u8]) -> u64 {
     if listing.len() > MAX_LISTING {
         return answer(2, 0);
     }
-    // a line with its newline has at most six times its frame's bytes, so with that much room
-    // nothing needs to be measured first
-    if text.len() < 6 * listing.len() + 6 {
+    // a line with its newline has less than seven times its frame's bytes (most of all a VCVTNEPS2BF16 of four
+    // brackets, 242 of 38), so with that much room nothing needs to be measured first
+    if text.len() < 7 * listing.len() + 6 {
         let needed = write_listing(listing, mode, None);
         if needed > text.len() {
             return answer(6, needed);

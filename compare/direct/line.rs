@@ -4,12 +4,13 @@ use crate::record::{Operand, Record};
 use crate::tables::{REGISTERS, SEGMENTS};
 use crate::LINE;
 
-pub(crate) struct Line<'a> {
+/// Of a record that may be extended, or of one that is not.
+pub(crate) struct Line<'a, const EXTENDED: bool> {
     pub(crate) text: &'a mut [u8; LINE],
     pub(crate) at: usize,
 }
 
-impl Line<'_> {
+impl<const EXTENDED: bool> Line<'_, EXTENDED> {
     #[inline]
     pub(crate) fn word(&mut self, word: &str) {
         self.text[self.at..self.at + word.len()].copy_from_slice(word.as_bytes());
@@ -69,7 +70,7 @@ impl Line<'_> {
 
     #[inline]
     pub(crate) fn register(&mut self, byte: u8) {
-        self.word(REGISTERS[byte as usize & 63]);
+        self.word(REGISTERS[byte as usize & 127]);
     }
 
     #[inline]
@@ -86,7 +87,7 @@ impl Line<'_> {
         self.word(SEGMENTS[operand.segment as usize]);
     }
 
-    /// The operand without label and segment.
+    /// The operand without label and segment, its mask after the bracket.
     #[inline]
     pub(crate) fn operand(&mut self, record: &Record, operand: &Operand) {
         let Operand { kind, first, second, scale, .. } = *operand;
@@ -115,6 +116,25 @@ impl Line<'_> {
             self.displacement(record.disp);
         }
         self.byte(b']');
+        if EXTENDED && operand.mask != 0 {
+            self.mask(operand.mask);
+        }
+    }
+
+    pub(crate) fn mask(&mut self, register: u8) {
+        self.byte(b'{');
+        self.register(register);
+        self.byte(b'}');
+    }
+
+    /// `{1toN}`, N in decimal; none that is printed is above 16.
+    pub(crate) fn broadcast(&mut self, count: u8) {
+        self.word("{1to");
+        if count > 9 {
+            self.byte(b'1');
+        }
+        self.byte(b'0' + count % 10);
+        self.byte(b'}');
     }
 
     /// The operand with label and segment where it is memory.

@@ -1,5 +1,6 @@
 //! A body's fields.
 
+/// One operand. A masked kind, 17 to 22, is kept as the kind without its mask, 11 to 16, and the mask beside it.
 #[derive(Clone, Copy)]
 pub(crate) struct Operand {
     /// 0 where the record has no such operand
@@ -8,10 +9,12 @@ pub(crate) struct Operand {
     pub(crate) first: u8,
     pub(crate) second: u8,
     pub(crate) scale: u8,
+    /// the mask's register byte, or 0
+    pub(crate) mask: u8,
 }
 
 impl Operand {
-    const NONE: Operand = Operand { kind: 0, segment: 0, first: 0, second: 0, scale: 0 };
+    const NONE: Operand = Operand { kind: 0, segment: 0, first: 0, second: 0, scale: 0, mask: 0 };
 
     #[inline]
     pub(crate) fn is_register(&self) -> bool {
@@ -24,15 +27,34 @@ impl Operand {
     }
 
     #[inline]
-    fn refused(&self) -> bool {
-        let Operand { kind, segment, first, second, scale } = *self;
+    pub(crate) fn bank(&self) -> u8 {
+        self.first / 8
+    }
+
+    /// In bytes; 0 of memory.
+    pub(crate) fn width(&self) -> u8 {
+        match self.kind {
+            1 | 2 => [4, 2, 1, 2, 10, 8, 16, 32, 64, 8][self.bank() as usize],
+            3 | 6 => 1,
+            4 | 7 => 2,
+            5 | 8 => 4,
+            _ => 0,
+        }
+    }
+
+    /// Five bytes of a kind without a mask. Of register bytes those below `registers` are taken, and of indices those
+    /// of banks 0 and 1, and the vector ones if asked.
+    #[inline]
+    fn refused(&self, registers: u8, vector_index: bool) -> bool {
+        let Operand { kind, segment, first, second, scale, .. } = *self;
+        let index = |byte: u8| byte < 16 || vector_index && (48..72).contains(&byte);
         match kind {
-            1 | 2 => segment | second | scale != 0 || first >= 64 || first & 0x3e == 30,
+            1 | 2 => segment | second | scale != 0 || first >= registers || first & 0xfe == 30,
             3..=8 => segment | first | second | scale != 0,
             9 | 10 => segment > 6 || first | second | scale != 0,
             11 | 12 => segment > 6 || first >= 16 || second | scale != 0,
-            13 | 14 => segment > 6 || first >= 16 || second != 0 || !one_of_four(scale),
-            15 | 16 => segment > 6 || first >= 16 || second >= 16 || !one_of_four(scale),
+            13 | 14 => segment > 6 || !index(first) || second != 0 || !one_of_four(scale),
+            15 | 16 => segment > 6 || first >= 16 || !index(second) || !one_of_four(scale),
             _ => true,
         }
     }
@@ -46,6 +68,7 @@ fn one_of_four(scale: u8) -> bool {
 
 pub(crate) struct Record {
     pub(crate) opcode: u8,
+    /// bit 6, the broadcast, in extended records alone
     pub(crate) flags: u8,
     pub(crate) length: u8,
     pub(crate) mem_size: u8,
@@ -53,21 +76,44 @@ pub(crate) struct Record {
     pub(crate) disp: u32,
     pub(crate) count: u8,
     pub(crate) operands: [Operand; 4],
+    /// both 0 where the record is not extended
+    pub(crate) length_bits: u8,
+    pub(crate) tail: u8,
 }
+
+/// The first opcode of which every record is extended, and the first number of none.
+const EXTENDED: u16 = 154;
+const OPCODES: u16 = 176;
 
 impl Record {
     #[inline]
-    pub(crate) fn read(body: &[u8]) -> Result<Record, u64> {
-        let Some((head, slots)) = body.split_first_chunk::<14>() else {
-            return Err(2);
-        };
-        let count = head[13];
-        if slots.len() != 5 * count as usize {
-            return Err(2);
+    fn of(head: &[u8; 14], operands: [Operand; 4], length_bits: u8, tail: u8) -> Record {
+        Record {
+            opcode: head[1],
+            flags: head[2],
+            length: head[3],
+            mem_size: head[4],
+            imm: u32::from_be_bytes([head[5], head[6], head[7], head[8]]),
+            disp: u32::from_be_bytes([head[9], head[10], head[11], head[12]]),
+            count: head[13],
+            operands,
+            length_bits,
+            tail,
         }
+    }
+
+    /// A record that is neither extended nor refused with 2 or 3, as most are.
+    #[inline]
+    pub(crate) fn read_plain(body: &[u8]) -> Option<Record> {
+        let (head, slots) = body.split_first_chunk::<14>()?;
         let opcode = u16::from_be_bytes([head[0], head[1]]);
-        if opcode >= 154 || head[2] >= 64 || head[3].wrapping_sub(1) >= 15 || count > 4 {
-            return Err(3);
+        if slots.len() != 5 * head[13] as usize
+            || opcode >= EXTENDED
+            || head[2] >= 64
+            || head[3].wrapping_sub(1) >= 15
+            || head[13] > 4
+        {
+            return None;
         }
         let mut operands = [Operand::NONE; 4];
         for (operand, slot) in operands.iter_mut().zip(slots.chunks_exact(5)) {
@@ -77,20 +123,58 @@ impl Record {
                 first: slot[2],
                 second: slot[3],
                 scale: slot[4],
+                mask: 0,
             };
-            if operand.refused() {
-                return Err(3);
+            if operand.refused(64, false) {
+                return None;
             }
         }
-        Ok(Record {
-            opcode: opcode as u8,
-            flags: head[2],
-            length: head[3],
-            mem_size: head[4],
-            imm: u32::from_be_bytes([head[5], head[6], head[7], head[8]]),
-            disp: u32::from_be_bytes([head[9], head[10], head[11], head[12]]),
-            count,
-            operands,
-        })
+        Some(Record::of(head, operands, 0, 0))
+    }
+
+    /// Any record: the length by its kinds, then the fields.
+    pub(crate) fn read(body: &[u8]) -> Result<Record, u64> {
+        let (head, slots) = body.split_first_chunk::<14>().ok_or(2u64)?;
+        let opcode = u16::from_be_bytes([head[0], head[1]]);
+        let count = head[13];
+        let mut extended = (EXTENDED..OPCODES).contains(&opcode);
+        let mut end = 0;
+        for _ in 0..count {
+            let Some(kind) = slots.get(end) else {
+                return Err(2);
+            };
+            let masked = (17..=22).contains(kind);
+            end += 5 + masked as usize;
+            extended |= masked;
+        }
+        if slots.len() != end + 2 * extended as usize {
+            return Err(2);
+        }
+        let (length_bits, tail) = if extended { (slots[end], slots[end + 1]) } else { (0, 0) };
+        let (flags, registers) = if extended { (128, 80) } else { (64, 64) };
+        if opcode >= OPCODES || head[2] >= flags || !(1..16).contains(&head[3]) || count > 4 || length_bits > 3 || tail > 2 {
+            return Err(3);
+        }
+        let mut operands = [Operand::NONE; 4];
+        let mut at = 0;
+        for (place, operand) in operands[..count as usize].iter_mut().enumerate() {
+            let slot = &slots[at..];
+            let masked = (17..=22).contains(&slot[0]);
+            *operand = Operand {
+                kind: if masked { slot[0] - 6 } else { slot[0] },
+                segment: slot[1],
+                first: slot[2],
+                second: slot[3],
+                scale: slot[4],
+                mask: if masked { slot[5] } else { 0 },
+            };
+            // the VPSCATTERs are the first four of the vector opcodes
+            let vector_index = place == 0 && !masked && (EXTENDED..EXTENDED + 4).contains(&opcode);
+            if operand.refused(registers, vector_index) || masked && !(73..80).contains(&operand.mask) {
+                return Err(3);
+            }
+            at += 5 + masked as usize;
+        }
+        Ok(Record::of(head, operands, length_bits, tail))
     }
 }

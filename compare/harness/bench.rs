@@ -55,8 +55,8 @@ fn main() {
 /// Each row once.
 fn one_pass(listing: &[u8], text: &[u8], input: &str) -> Vec<Row> {
     let mut rows = Vec::new();
-    // room for 257 bytes a record and for nine times the listing, so that no printer measures first
-    let ample = (257 * RECORDS).max(9 * listing.len());
+    // room for 321 bytes a record and for nine times the listing, so that no printer measures first
+    let ample = (321 * RECORDS).max(9 * listing.len());
     let hosts = pairs("BENCH_HOSTS");
     for (label, command) in &hosts {
         rows.push(time_host(label, command, listing, text, ample));

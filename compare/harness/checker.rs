@@ -6,7 +6,7 @@ use crate::host::{calls, Call, Expected, Host};
 use crate::programs::{run_program, Found, Program};
 use crate::shrink::shrink;
 use crate::{command, hex};
-use oracle::{line_into, listing_into, name_of, Sink};
+use oracle::{line_into, listing_into, name_of, Sink, OPCODES};
 use std::sync::mpsc::{sync_channel, Receiver, SyncSender};
 use std::sync::Arc;
 use std::thread::JoinHandle;
@@ -14,7 +14,7 @@ use std::thread::JoinHandle;
 pub struct Checker {
     batch: Batch,
     host: Option<SyncSender<Arc<Batch>>>,
-    checked: JoinHandle<Result<[u64; 7], Difference>>,
+    checked: JoinHandle<Result<[u64; 8], Difference>>,
     programs: [Program; 2],
     commands: [String; 3],
     counts: Counts,
@@ -25,10 +25,10 @@ pub struct Checker {
 #[derive(Clone)]
 pub struct Counts {
     pub records: usize,
-    /// records by answer (0 and 2 to 5), in each mode
-    pub answers: [[u64; 7]; 2],
+    /// records by answer (0, 2 to 5 and 7), in each mode
+    pub answers: [[u64; 8]; 2],
     /// calls of masm_print_record by the answer that came
-    pub calls: [u64; 7],
+    pub calls: [u64; 8],
     /// records that were printed, records in all, by opcode number
     pub opcodes: Vec<[u64; 2]>,
 }
@@ -38,7 +38,7 @@ impl Counts {
         println!("records  {}", self.records);
         for (mode, answers) in self.answers.iter().enumerate() {
             let parts: Vec<String> =
-                [0, 2, 3, 4, 5].iter().map(|&answer| format!("{answer}: {}", answers[answer])).collect();
+                [0, 2, 3, 4, 5, 7].iter().map(|&answer| format!("{answer}: {}", answers[answer])).collect();
             println!("mode {mode}   by answer  {}", parts.join("  "));
         }
         let parts: Vec<String> =
@@ -70,9 +70,9 @@ impl Checker {
             commands,
             counts: Counts {
                 records: 0,
-                answers: [[0; 7]; 2],
-                calls: [0; 7],
-                opcodes: vec![[0; 2]; 154],
+                answers: [[0; 8]; 2],
+                calls: [0; 8],
+                opcodes: vec![[0; 2]; OPCODES as usize],
             },
             stopped: false,
         }
@@ -131,8 +131,8 @@ impl Checker {
 }
 
 /// The host's thread: each batch through the record entry, and as a listing through the other.
-fn check(host: &mut Host, batches: Receiver<Arc<Batch>>) -> Result<[u64; 7], Difference> {
-    let mut answers = [0; 7];
+fn check(host: &mut Host, batches: Receiver<Arc<Batch>>) -> Result<[u64; 8], Difference> {
+    let mut answers = [0; 8];
     for (number, batch) in batches.into_iter().enumerate() {
         check_records(host, &batch, &mut answers)?;
         check_listing(host, &batch, number)?;
@@ -140,7 +140,7 @@ fn check(host: &mut Host, batches: Receiver<Arc<Batch>>) -> Result<[u64; 7], Dif
     Ok(answers)
 }
 
-fn check_records(host: &mut Host, batch: &Batch, counts: &mut [u64; 7]) -> Result<(), Difference> {
+fn check_records(host: &mut Host, batch: &Batch, counts: &mut [u64; 8]) -> Result<(), Difference> {
     let length = |mode, at| if batch.answer(mode, at) == 0 { batch.line(mode, at).len() } else { 0 };
     let all: Vec<Vec<Call>> = (0..batch.len())
         .map(|at| {

@@ -1,7 +1,7 @@
 //! A difference, ready to be read.
 
 use crate::hex;
-use oracle::{name_of, Complaint};
+use oracle::{name_of, Complaint, OPCODES};
 
 #[derive(Clone, Debug)]
 pub struct Difference {
@@ -33,7 +33,7 @@ impl Difference {
             }
             if let [high, low, ..] = body[..] {
                 let opcode = u16::from_be_bytes([high, low]);
-                if opcode < 154 {
+                if opcode < OPCODES {
                     println!("  opcode    {opcode} {}", name_of(opcode));
                 }
             }

@@ -37,6 +37,7 @@ fn memory(random: &mut Random) -> Slot {
         },
         second: if kind >= 15 { index } else { 0 },
         scale: if kind >= 13 { random.pick(&[1, 2, 4, 8]) } else { 0 },
+        mask: 0,
     }
 }
 

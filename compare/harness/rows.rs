@@ -1,6 +1,6 @@
-//! The rows of crates/printed: records that are chosen by document 01's cases and by the arms of
-//! document 000, with what the oracle makes of each, and a few listings. The choice knows documents
-//! 01 and 000 and no crate; the answers and the texts are the oracle's.
+//! The rows of crates/printed: records that are chosen by document 01's cases, by W-204's and by the arms
+//! of document 000, with what the oracle makes of each, and a few listings. The choice knows these three
+//! and no crate; the answers and the texts are the oracle's.
 //!
 //! `text()` is the stored file: one row a line, fields parted by ` | `,
 //!
@@ -11,20 +11,21 @@
 //! A line that starts with `##` names the part of the table that begins there, one with `#` what the
 //! rows after it show. compare/table makes the table of it.
 
-use oracle::{line_into, listing_into, name_of, print_listing, Record, Sink, Slot, MAX_LISTING};
+use oracle::{line_into, listing_into, name_of, print_listing, Record, Sink, Slot, MAX_LISTING, OPCODES};
 
 mod arms;
 mod general;
 mod listings;
 mod refusals;
+mod vector;
 
-const OPCODES: u16 = 154;
 const XACQUIRE: u8 = 1;
 const XRELEASE: u8 = 2;
 const LOCK: u8 = 4;
 const REP: u8 = 8;
 const REPNZ: u8 = 16;
 const OPERAND_SIZE: u8 = 32;
+const BROADCAST: u8 = 64;
 
 // register bytes: 8 times bank plus number
 const EAX: u8 = 0;
@@ -35,6 +36,7 @@ const EBP: u8 = 5;
 const ESI: u8 = 6;
 const EDI: u8 = 7;
 const AX: u8 = 8;
+const CX: u8 = 9;
 const DX: u8 = 10;
 const BX: u8 = 11;
 const BP: u8 = 13;
@@ -48,6 +50,8 @@ const ST0: u8 = 32;
 const MM0: u8 = 40;
 const XMM0: u8 = 48;
 const YMM0: u8 = 56;
+const ZMM0: u8 = 64;
+const K0: u8 = 72;
 
 // segment numbers
 const SEG_ES: u8 = 1;
@@ -66,7 +70,7 @@ const U16: Slot = bytes(7, 0, 0, 0, 0);
 const U32: Slot = bytes(8, 0, 0, 0, 0);
 
 const fn bytes(kind: u8, segment: u8, first: u8, second: u8, scale: u8) -> Slot {
-    Slot { kind, segment, first, second, scale }
+    Slot { kind, segment, first, second, scale, mask: 0 }
 }
 const fn r(register: u8) -> Slot {
     bytes(1, 0, register, 0, 0)
@@ -101,6 +105,10 @@ const fn both_near(base: u8, register: u8, scale: u8) -> Slot {
 const fn seg(segment: u8, slot: Slot) -> Slot {
     Slot { segment, ..slot }
 }
+/// A bracket with the mask k1 to k7.
+const fn masked(mask: u8, slot: Slot) -> Slot {
+    Slot { kind: slot.kind + 6, mask: K0 + mask, ..slot }
+}
 
 /// What is changed in a record beside its operands.
 trait Fields {
@@ -109,6 +117,8 @@ trait Fields {
     fn disp(self, disp: i64) -> Record;
     fn flags(self, flags: u8) -> Record;
     fn long(self, length: u8) -> Record;
+    /// length bits and tail
+    fn end(self, length_bits: u8, tail: u8) -> Record;
 }
 
 impl Fields for Record {
@@ -126,6 +136,9 @@ impl Fields for Record {
     }
     fn long(self, length: u8) -> Record {
         Record { length, ..self }
+    }
+    fn end(self, length_bits: u8, tail: u8) -> Record {
+        Record { length_bits, tail, ..self }
     }
 }
 
@@ -147,7 +160,7 @@ struct Rows {
     text: String,
     bodies: Vec<Vec<u8>>,
     accepted: Vec<u16>,
-    answers: [usize; 6],
+    answers: [usize; 8],
 }
 
 /// The stored file, whole.
@@ -175,15 +188,32 @@ pub fn text() -> String {
     refusals::sizes(&mut rows);
     refusals::order(&mut rows);
     refusals::modes(&mut rows);
+    refusals::vector_lengths(&mut rows);
+    refusals::vector_fields(&mut rows);
+    refusals::vector_shapes(&mut rows);
+    refusals::vector_sizes(&mut rows);
+    refusals::counts(&mut rows);
+    refusals::vector_order(&mut rows);
     rows.part("listing");
     listings::listings(&mut rows);
+    listings::vector_listings(&mut rows);
+    rows.part("mask");
+    vector::masks(&mut rows);
+    vector::hidden(&mut rows);
+    rows.part("vector");
+    vector::registers(&mut rows);
+    vector::scatters(&mut rows);
+    vector::counts(&mut rows);
+    vector::tails(&mut rows);
     rows.part("limit");
     listings::limits(&mut rows);
     for opcode in 0..OPCODES {
         let count = rows.accepted.iter().filter(|&&one| one == opcode).count();
         assert!(count >= 2, "{} has {count} rows", name_of(opcode));
     }
-    assert!(rows.answers.iter().all(|&count| count > 0), "an answer has no row");
+    // 6 depends on the buffer, for which a row stands in any case
+    let there = [0, 1, 2, 3, 4, 5, 7].iter().all(|&answer: &usize| rows.answers[answer] > 0);
+    assert!(there, "an answer has no row");
     rows.text
 }
 
@@ -199,14 +229,27 @@ fn said(body: &[u8], mode: u32) -> (u8, String) {
 
 /// A body in hex, its fields parted by blanks; of one that is too short, what there is of it.
 fn hex(body: &[u8]) -> String {
+    let mut starts = vec![2, 3, 4, 5, 9, 13];
+    let mut operands = 0;
+    let mut extended = matches!(body, [0, 154..=175, ..]);
+    let mut start = 14;
+    while start < body.len() {
+        starts.push(start);
+        let masked = matches!(body[start], 17..=22);
+        // the two bytes after the operands each stand alone
+        start += match masked {
+            _ if extended && operands == body[13] => 1,
+            true => 6,
+            false => 5,
+        };
+        if operands < body[13] {
+            extended |= masked;
+            operands += 1;
+        }
+    }
     let mut text = String::new();
     for (place, byte) in body.iter().enumerate() {
-        let starts = match place {
-            0 => false,
-            1..=13 => [2, 3, 4, 5, 9, 13].contains(&place),
-            _ => place % 5 == 4,
-        };
-        if starts {
+        if starts.contains(&place) {
             text.push(' ');
         }
         text.push_str(&format!("{byte:02X}"));

@@ -22,16 +22,35 @@ pub(crate) fn shrink(body: Vec<u8>, mut differs: impl FnMut(&[u8]) -> bool) -> V
 
 fn candidates(body: &[u8]) -> Vec<Vec<u8>> {
     let mut found = Vec::new();
-    // a slot less, with the count to match
-    if body.len() >= 19 && body[13] > 0 && body.len() == 14 + 5 * body[13] as usize {
-        for slot in 0..body[13] as usize {
+    // a slot less, with the count to match; and a masked slot without its mask
+    let mut start = 14;
+    for _ in 0..body.get(13).copied().unwrap_or(0) {
+        let masked = body.get(start).is_some_and(|kind| (17..=22).contains(kind));
+        let end = start + if masked { 6 } else { 5 };
+        if end > body.len() {
+            break;
+        }
+        let mut smaller = body.to_vec();
+        smaller.drain(start..end);
+        smaller[13] -= 1;
+        found.push(smaller);
+        if masked {
             let mut smaller = body.to_vec();
-            smaller.drain(14 + 5 * slot..19 + 5 * slot);
-            smaller[13] -= 1;
+            smaller.remove(end - 1);
+            smaller[start] -= 6;
+            // the two bytes after the operands may have to go with it
+            found.push(smaller[..smaller.len().saturating_sub(2).max(14)].to_vec());
             found.push(smaller);
         }
+        start = end;
     }
-    for kept in [body.len() / 2, body.len().saturating_sub(5), body.len().saturating_sub(1)] {
+    // the two bytes after the operands belong to a vector opcode, and go with it
+    if body.len() >= 16 && matches!(body, [0, 154..=175, ..]) {
+        let mut smaller = body[..body.len() - 2].to_vec();
+        smaller[1] = 0;
+        found.push(smaller);
+    }
+    for kept in [body.len() / 2, body.len().saturating_sub(5), body.len().saturating_sub(2), body.len().saturating_sub(1)] {
         if kept < body.len() {
             found.push(body[..kept].to_vec());
         }

@@ -3,17 +3,19 @@
 //! compare_listings `args`, the two listings in `data`, and `stdout`.
 //! `stored FOLDER check`: says whether the files there are these.
 //!
-//! The listing, in order: document 01's lines; three records of each opcode that keep the rules;
-//! 6,000 records of the generator with seed 154; frames up to the longest, which is longer than the
-//! programs' buffer; a few records behind them; and an end inside a frame, which prints `; cut`.
+//! The listing, in order: document 01's lines; three records of each opcode up to 153 that keep the rules;
+//! plain records of the generator with seed 154 up to 6,000; frames up to the longest, which is longer than the
+//! programs' buffer, with a few records after each; W-204's records; three of each vector opcode that keep the
+//! rules; extended records of the generator with seed 204, 1,500 with these; the longest bodies that have the right
+//! length, and those beside them, with a few records after each; and an end inside a frame, which prints `; cut`.
 //! For where_crate and where_straight, whose text has each body too: document 01's lines; bodies of
-//! 0 to 81 bytes; the longest, and one nearly so, with records between them; and such an end.
-//! For compare_listings: document 01's lines and 300 records of the generator with the same seed, of which
+//! 0 to 81 bytes; the longest, and one nearly so, with records between them; W-204's records; and such an end.
+//! For compare_listings: document 01's lines and 300 plain records of the generator with seed 154, of which
 //! three quarters differ, by a bit of their last byte, in their length, or as a whole; long bodies, the longest
-//! of which differ in their last byte; document 01's lines on both sides, and then in the first alone, which has
-//! such an end.
+//! of which differ in their last byte; document 01's lines on both sides; W-204's records and 100 extended ones
+//! with seed 204, which differ in the same ways; and document 01's lines in the first alone, which has such an end.
 
-use oracle::{comparison_into, line_into, listing_into, Record, Sink, Slot};
+use oracle::{comparison_into, line_into, listing_into, Record, Sink, Slot, OPCODES};
 use records::Random;
 use std::fmt::Write;
 use std::path::Path;
@@ -22,6 +24,11 @@ mod rows;
 
 const SEED: u64 = 154;
 const RECORDS: usize = 6000;
+const EXTENDED_SEED: u64 = 204;
+const EXTENDED_RECORDS: usize = 1500;
+
+/// The first of the vector opcodes.
+const VECTOR: usize = 154;
 
 fn main() {
     let words: Vec<String> = std::env::args().skip(1).collect();
@@ -112,17 +119,9 @@ fn store(file: &Path, bytes: &[u8], check: bool) -> bool {
 fn listing() -> Vec<u8> {
     let mut bodies = documented();
     let mut random = Random::new(SEED);
-    let mut owed = [3; 154];
-    while owed.iter().any(|&count| count > 0) {
-        let body = records::sound_body(&mut random);
-        let owed = &mut owed[u16::from_be_bytes([body[0], body[1]]) as usize];
-        if *owed > 0 && line_into(&body, 0, &mut Sink::default()) == Ok(0) {
-            *owed -= 1;
-            bodies.push(body);
-        }
-    }
+    three_of_each(0..VECTOR, || records::sound_plain_body(&mut random), &mut bodies);
     while bodies.len() < RECORDS {
-        let body = records::body(&mut random);
+        let body = records::plain_body(&mut random);
         // the long ones are chosen below
         if body.len() < 1000 {
             bodies.push(body);
@@ -137,7 +136,49 @@ fn listing() -> Vec<u8> {
         bodies.push(body);
         bodies.extend_from_slice(&some);
     }
+    extended(&mut bodies);
     with_cut(&bodies)
+}
+
+/// Three records of each of these opcodes that are printed.
+fn three_of_each(opcodes: std::ops::Range<usize>, mut next: impl FnMut() -> Vec<u8>, bodies: &mut Vec<Vec<u8>>) {
+    let mut owed = vec![3; opcodes.len()];
+    while owed.iter().any(|&count| count > 0) {
+        let body = next();
+        let opcode = u16::from_be_bytes([body[0], body[1]]) as usize;
+        if opcodes.contains(&opcode)
+            && owed[opcode - opcodes.start] > 0
+            && line_into(&body, 0, &mut Sink::default()) == Ok(0)
+        {
+            owed[opcode - opcodes.start] -= 1;
+            bodies.push(body);
+        }
+    }
+}
+
+/// The extended records of the listing, after the plain ones.
+fn extended(bodies: &mut Vec<Vec<u8>>) {
+    let some = documented_vector();
+    let last = bodies.len() + EXTENDED_RECORDS;
+    bodies.extend_from_slice(&some);
+    let mut random = Random::new(EXTENDED_SEED);
+    three_of_each(VECTOR..OPCODES as usize, || records::sound_extended_body(&mut random), bodies);
+    while bodies.len() < last {
+        bodies.push(records::extended_body(&mut random));
+    }
+    // a count of 255 with masked operands alone is as long as 1,546 bytes, all of five 1,289 and two
+    for (operand, lengths) in [(&[17, 0, 0, 0, 0, 73][..], [1545, 1546, 1547]), (&[3, 0, 0, 0, 0], [1289, 1290, 1291])] {
+        for length in lengths {
+            let mut body = vec![0; 14];
+            body[1] = VECTOR as u8;
+            body[3] = 1;
+            body[13] = 255;
+            body.extend(operand.repeat(255));
+            body.resize(length, 0);
+            bodies.push(body);
+            bodies.extend_from_slice(&some[..10]);
+        }
+    }
 }
 
 fn located_listing() -> Vec<u8> {
@@ -149,6 +190,7 @@ fn located_listing() -> Vec<u8> {
             bodies.extend_from_slice(&some);
         }
     }
+    bodies.extend(documented_vector());
     with_cut(&bodies)
 }
 
@@ -157,20 +199,12 @@ fn compared_listings() -> [Vec<u8>; 2] {
     let mut first = some.clone();
     let mut random = Random::new(SEED);
     while first.len() < some.len() + 300 {
-        let body = records::body(&mut random);
+        let body = records::plain_body(&mut random);
         if (14..1000).contains(&body.len()) {
             first.push(body);
         }
     }
-    let mut second = first.clone();
-    for (at, body) in second.iter_mut().enumerate() {
-        match at % 4 {
-            0 => {}
-            1 => *body.last_mut().expect("14 bytes or more") ^= 1,
-            2 => body[3] ^= 1,
-            _ => *body = first[at - 1].clone(),
-        }
-    }
+    let mut second = differing(&first);
     for (length, last) in [(65_535, 1), (40_000, 0), (65_534, 0), (65_535, 1)] {
         let mut body = vec![0; length];
         first.push(body.clone());
@@ -179,8 +213,32 @@ fn compared_listings() -> [Vec<u8>; 2] {
     }
     first.extend_from_slice(&some);
     second.extend_from_slice(&some);
+    let mut extended = documented_vector();
+    let mut random = Random::new(EXTENDED_SEED);
+    while extended.len() < documented_vector().len() + 100 {
+        let body = records::extended_body(&mut random);
+        if (14..1000).contains(&body.len()) {
+            extended.push(body);
+        }
+    }
+    second.extend(differing(&extended));
+    first.extend(extended);
     first.extend_from_slice(&some);
     [with_cut(&first), whole(&second)]
+}
+
+/// The same records, of which three quarters differ.
+fn differing(bodies: &[Vec<u8>]) -> Vec<Vec<u8>> {
+    let mut others = bodies.to_vec();
+    for (at, body) in others.iter_mut().enumerate() {
+        match at % 4 {
+            0 => {}
+            1 => *body.last_mut().expect("14 bytes or more") ^= 1,
+            2 => body[3] ^= 1,
+            _ => *body = bodies[at - 1].clone(),
+        }
+    }
+    others
 }
 
 fn whole(bodies: &[Vec<u8>]) -> Vec<u8> {
@@ -243,11 +301,76 @@ fn documented() -> Vec<Vec<u8>> {
     bodies
 }
 
+/// Records of W-204's own words: masks, VPSCATTER, `{1toN}`, tails and the refusals.
+fn documented_vector() -> Vec<Vec<u8>> {
+    const ZMM: u8 = 64;
+    const K: u8 = 72;
+    let register = |kind, first| Slot { kind, first, ..Slot::default() };
+    let eax = Slot { kind: 17, mask: K + 1, ..Slot::default() };
+    let scatter = Slot { kind: 15, second: ZMM + 1, scale: 4, ..Slot::default() };
+    let memory = Slot { kind: 11, ..Slot::default() };
+    let with = |opcode, mem_size, flags, (length_bits, tail), slots: &[Slot]| {
+        let mut record = Record {
+            opcode,
+            flags,
+            length: 6,
+            mem_size,
+            disp: 4,
+            count: slots.len() as u8,
+            length_bits,
+            tail,
+            ..Record::default()
+        };
+        record.slots[..slots.len()].copy_from_slice(slots);
+        record.body()
+    };
+    let mut bodies = Vec::new();
+    // `[eax + 4]{k1}`: each masked kind, in MOV, LEA and LODS
+    for kind in 17..=22 {
+        let scale = if kind > 18 { 2 } else { 0 };
+        let slot = Slot { kind, scale, mask: K + kind - 16, ..Slot::default() };
+        for opcode in [23, 101, 89] {
+            bodies.push(with(opcode, 4, 0, (0, 0), &[register(1, 0), slot]));
+        }
+    }
+    // vpscatterdd dword ptr [eax + zmm1 * 4]{k1}, zmm2
+    for opcode in 154..158 {
+        bodies.push(with(opcode, 0, 0, (0, 0), &[scatter, register(2, K + 1), register(1, ZMM + 2)]));
+        bodies.push(with(opcode, 0, 0, (0, 0), &[eax, register(2, K + 1), register(1, ZMM + 2)]));
+    }
+    // `[eax]{k1}{1to4}`, by both tables and by the widths
+    for opcode in 158..176 {
+        for length_bits in 0..4 {
+            bodies.push(with(opcode, 8, 64, (length_bits, 0), &[register(1, ZMM), eax]));
+        }
+    }
+    for bank in 0..10 {
+        for mem_size in [1, 2, 4, 8] {
+            bodies.push(with(175, mem_size, 64, (0, 0), &[register(1, 8 * bank), memory]));
+        }
+    }
+    for end in [(0, 0), (0, 1), (0, 2), (1, 2), (2, 2), (3, 2), (4, 0), (0, 3)] {
+        bodies.push(with(175, 0, 0, end, &[register(1, ZMM), register(2, ZMM + 1)]));
+        bodies.push(with(175, 0, 0, end, &[]));
+    }
+    // k0 as a mask, and what a record that is not extended has not
+    bodies.push(with(35, 4, 0, (0, 0), &[Slot { mask: K, ..eax }]));
+    bodies.push(with(23, 4, 64, (0, 0), &[register(1, 0), memory]));
+    bodies.push(with(23, 4, 0, (0, 0), &[register(1, ZMM)]));
+    bodies.push(with(23, 4, 0, (0, 0), &[scatter]));
+    // a masked operand that is not shown, and the same without the two bytes
+    let mut hidden = with(80, 0, 0, (0, 0), &[register(1, 0), eax]);
+    bodies.push(hidden.clone());
+    hidden.truncate(hidden.len() - 2);
+    bodies.push(hidden);
+    bodies
+}
+
 fn summary(text: &[u8], mode: u32) {
     let text = String::from_utf8_lossy(text);
     let refused = |answer: u8| text.lines().filter(|line| *line == format!("; refused {answer}")).count();
     println!(
-        "mode {mode}: {} lines, refused 2: {}, 3: {}, 4: {}, 5: {}, last line {:?}",
-        text.lines().count(), refused(2), refused(3), refused(4), refused(5), text.lines().last().unwrap_or("")
+        "mode {mode}: {} lines, refused 2: {}, 3: {}, 4: {}, 5: {}, 7: {}, last line {:?}",
+        text.lines().count(), refused(2), refused(3), refused(4), refused(5), refused(7), text.lines().last().unwrap_or("")
     );
 }

@@ -3,14 +3,14 @@
 //! is an intended difference. For each case the first record found, smallest first.
 
 use harness::hex;
-use oracle::{line_into, name_of, unguarded_line, Record, Sink, Slot};
+use oracle::{line_into, name_of, unguarded_line, Record, Sink, Slot, OPCODES};
 use std::collections::BTreeMap;
 
 fn main() {
     std::panic::set_hook(Box::new(|_| {}));
     // (answer, what 000 does) -> opcodes, first record, line
     let mut found: BTreeMap<(u8, String), (Vec<u16>, Vec<u8>, String)> = BTreeMap::new();
-    for opcode in 0..154 {
+    for opcode in 0..OPCODES {
         for count in 0..=3 {
             every(count, &mut |slots| {
                 for mem_size in [0, 1, 4, 6, 10, 48, 63] {
@@ -59,6 +59,8 @@ fn every(count: usize, with: &mut dyn FnMut(&[Slot])) {
         register(2, 47),
         register(3, 0),
         register(11, 0),
+        // k1, which only the vector opcodes take
+        register(1, 73),
     ];
     let mut slots = vec![choice[0]; count];
     for number in 0..choice.len().pow(count as u32) {
@@ -80,6 +82,7 @@ fn shape(record: &Record) -> &'static str {
         87 | 88 => "operand 0 that is no memory",
         112..=141 => "the FADD arm",
         142..=147 => "the FBLD arm",
+        154..=157 => "the VPSCATTER arms",
         _ => "other",
     }
 }

@@ -3,7 +3,7 @@
 
 use crate::protected_mode::display::masm::contextualize;
 use crate::record::Record;
-use crate::refusals::{shape_refused, size_refused};
+use crate::refusals::{broadcast_refused, shape_refused, size_refused};
 use crate::shim::arch::display::DisplaySink;
 use crate::shim::{Instruction, NoRules};
 use crate::straight;
@@ -46,6 +46,9 @@ fn line(body: &[u8], mode: u32, out: &mut Lent) -> Result<(), u64> {
     }
     if size_refused(&record) {
         return Err(5);
+    }
+    if broadcast_refused(&record) {
+        return Err(7);
     }
     let start = out.at;
     let printed = contextualize(&Instruction::of(&record), &NoRules, out);

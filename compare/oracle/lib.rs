@@ -6,9 +6,9 @@
 //! 01's refusals in front of it, and adds what 000 has not: mode 1 and the listing.
 //!
 //! - `shim`: the items that 000 imports, small, with document 01's choices where 000 leaves one out
-//! - `opcodes`: the 154 numbered opcodes, and those that 000 names beside them
+//! - `opcodes`: the 176 numbered opcodes, and those that 000 names beside them
 //! - `record`: a body's fields, answers 2 and 3
-//! - `refusals`: answers 4 and 5, from document 01's lists and never from 000
+//! - `refusals`: answers 4, 5 and 7, from document 01's lists and W-204 and never from 000
 //! - `straight`: mode 1's word and sum in 000's line for a branch
 //! - `print`: one record's answer and line in both modes
 //! - `listing`: frames and lines
@@ -38,7 +38,7 @@ pub use comparison::comparison_into;
 pub use fast::{print_listing, print_record};
 #[cfg(not(bare))]
 pub use listing::listing_into;
-pub use opcodes::name_of;
+pub use opcodes::{name_of, OPCODES};
 #[cfg(not(bare))]
 pub use print::{line_into, unguarded_line, Complaint, Sink};
 pub use record::{Record, Slot};

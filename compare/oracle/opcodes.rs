@@ -1,6 +1,9 @@
 //! Opcode numbers, in document 01's order, and printed names.
 
-const NUMBERED: usize = 154;
+/// How many opcodes have a number: 0 up to this one, which is none.
+pub const OPCODES: u16 = 176;
+
+const NUMBERED: usize = OPCODES as usize;
 
 /// A name of the table in lower case. Every name has at most sixteen letters.
 type Name = ([u8; 16], usize);
@@ -57,10 +60,14 @@ opcodes! {
     // 142: its FBLD and FBSTP arms
     FBLD FLD FILD FXCH FUCOM FUCOMP
     FBSTP FST FSTP FIST FISTP FISTTP
-    ;
-    JCXZ VPSCATTERDD VPSCATTERQD VPSCATTERDQ VPSCATTERQQ VPEXTRQ VPINSRQ
+    // 154: its VPSCATTER arms
+    VPSCATTERDD VPSCATTERQD VPSCATTERDQ VPSCATTERQQ
+    // 158: the opcodes of its broadcast rule, then one that has the rule for all others
     VCVTPD2PS VCVTTPD2UDQ VCVTPD2UDQ VCVTUDQ2PD VCVTPS2PD VCVTQQ2PS VCVTDQ2PD VCVTTPD2DQ VFPCLASSPS
     VFPCLASSPD VCVTNEPS2BF16 VCVTUQQ2PS VCVTPD2DQ VCVTTPS2UQQ VCVTPS2UQQ VCVTTPS2QQ VCVTPS2QQ
+    VADDPD
+    ;
+    JCXZ VPEXTRQ VPINSRQ
 }
 
 impl Opcode {
@@ -79,7 +86,7 @@ impl Opcode {
     }
 }
 
-/// The name that the table holds for an opcode number below 154.
+/// The name that the table holds for an opcode that has a number.
 pub fn name_of(number: u16) -> &'static str {
     Opcode::numbered(number).name()
 }

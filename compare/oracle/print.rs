@@ -2,7 +2,7 @@
 
 use crate::protected_mode::display::masm::contextualize;
 use crate::record::Record;
-use crate::refusals::{shape_refused, size_refused};
+use crate::refusals::{broadcast_refused, shape_refused, size_refused};
 use crate::shim::arch::display::DisplaySink;
 use crate::shim::{Instruction, NoRules};
 use crate::straight;
@@ -44,7 +44,7 @@ fn run_000(record: &Record, out: &mut Sink) -> Result<(), Complaint> {
         .map_err(|_| Complaint("000 returned an error".into()))
 }
 
-/// What 000 does with fields that keep the record rules, whatever answers 4 and 5 say: its line, or
+/// What 000 does with fields that keep the record rules, whatever answers 4, 5 and 7 say: its line, or
 /// what it panicked with.
 pub fn unguarded_line(record: &Record) -> Result<String, Complaint> {
     let mut out = Sink::default();
@@ -52,7 +52,7 @@ pub fn unguarded_line(record: &Record) -> Result<String, Complaint> {
     Ok(String::from_utf8_lossy(&out.0).into_owned())
 }
 
-/// Answer 0 and the line behind `out`'s bytes, or answer 2 to 5 and `out` as it was. The mode is 0
+/// Answer 0 and the line after `out`'s bytes, or answer 2 to 5 or 7 and `out` as it was. The mode is 0
 /// or 1; answer 1 and answer 6 depend on the call and are the caller's.
 pub fn line_into(body: &[u8], mode: u32, out: &mut Sink) -> Result<u8, Complaint> {
     let record = match Record::read(body) {
@@ -64,6 +64,9 @@ pub fn line_into(body: &[u8], mode: u32, out: &mut Sink) -> Result<u8, Complaint
     }
     if size_refused(&record) {
         return Ok(5);
+    }
+    if broadcast_refused(&record) {
+        return Ok(7);
     }
     let start = out.0.len();
     if let Err(complaint) = run_000(&record, out) {

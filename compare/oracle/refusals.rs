@@ -1,5 +1,5 @@
-//! Answers 4 and 5, each written from document 01's own list. 000 is not asked here: it panics, or
-//! prints something odd, or prints well, and the comparison wants to know which.
+//! Answers 4, 5 and 7, each written from document 01's own list and from W-204. 000 is not asked here: it
+//! panics, or prints something odd, or prints well, and the comparison wants to know which.
 
 use crate::opcodes::Opcode::{self, *};
 use crate::record::{Record, Slot};
@@ -32,6 +32,7 @@ enum Arm {
     Fadd,
     Fbld,
     Fbstp,
+    Scatter,
 }
 
 fn arm(opcode: Opcode, record: &Record) -> Arm {
@@ -67,6 +68,7 @@ fn arm(opcode: Opcode, record: &Record) -> Arm {
         | FCMOVNB | FCMOVNE | FCMOVNBE | FCMOVNU | FUCOMI | FCOMI | FUCOMIP | FCOMIP => Arm::Fadd,
         FBLD | FLD | FILD | FXCH | FUCOM | FUCOMP => Arm::Fbld,
         FBSTP | FST | FSTP | FIST | FISTP | FISTTP => Arm::Fbstp,
+        VPSCATTERDD | VPSCATTERQD | VPSCATTERDQ | VPSCATTERQQ => Arm::Scatter,
         _ => Arm::General,
     }
 }
@@ -75,8 +77,9 @@ fn arm(opcode: Opcode, record: &Record) -> Arm {
 pub(crate) fn shape_refused(record: &Record) -> bool {
     let memory = |place| record.slot(place).is_some_and(Slot::is_memory);
     let kind = |place, kind| record.slot(place).is_some_and(|slot| slot.kind == kind);
-    let general_register =
-        |place| record.slot(place).is_some_and(|slot| slot.is_register() && slot.bank() == 0);
+    let register_of =
+        |bank: u8, place| record.slot(place).is_some_and(|slot| slot.is_register() && slot.bank() == bank);
+    let unmasked = |place| record.slot(place).is_some_and(|slot| slot.is_memory() && !slot.is_masked());
     match arm(Opcode::numbered(record.opcode), record) {
         Arm::Bare | Arm::Branch | Arm::General => false,
         Arm::Hreset | Arm::Plain | Arm::Fbstp => record.count < 1,
@@ -92,10 +95,12 @@ pub(crate) fn shape_refused(record: &Record) -> bool {
         },
         Arm::Table | Arm::Scas => !memory(0),
         Arm::Lss | Arm::Lods => !memory(1),
-        Arm::Incssp => !general_register(0),
-        Arm::Wrss => !general_register(1),
+        Arm::Incssp => !register_of(0, 0),
+        Arm::Wrss => !register_of(0, 1),
         Arm::Fadd => record.count < 2 || !(memory(1) || kind(0, 1) || kind(1, 1)),
         Arm::Fbld => !(memory(1) || kind(1, 2)),
+        // bank 9 is k0 to k7
+        Arm::Scatter => !(unmasked(0) && register_of(9, 1) && record.count > 2),
     }
 }
 
@@ -111,9 +116,8 @@ pub(crate) fn size_refused(record: &Record) -> bool {
     let opcode = Opcode::numbered(record.opcode);
     let memory = |place| record.slot(place).is_some_and(Slot::is_memory);
     match arm(opcode, record) {
-        Arm::Bare | Arm::Branch | Arm::Hreset | Arm::Plain | Arm::Table | Arm::Invlpgb | Arm::Lea => {
-            false
-        }
+        Arm::Bare | Arm::Branch | Arm::Hreset | Arm::Plain | Arm::Table | Arm::Invlpgb | Arm::Lea
+        | Arm::Scatter => false,
         Arm::Lss => size != 4 && size != 6,
         Arm::Scas | Arm::Lods => !labelled(size),
         Arm::Blend | Arm::Fcom | Arm::Fadd => memory(1) && !labelled(size),
@@ -129,4 +133,33 @@ pub(crate) fn size_refused(record: &Record) -> bool {
             memory(place) && !(labelled(size) || size == 63 || size == 48 || (far && size == 6))
         }),
     }
+}
+
+/// The opcodes whose `{1toN}` goes by the length bits; none of theirs is above 16.
+fn counts_by_length(opcode: Opcode) -> bool {
+    matches!(
+        opcode,
+        VCVTPD2PS | VCVTTPD2UDQ | VCVTPD2UDQ | VCVTUDQ2PD | VCVTPS2PD | VCVTQQ2PS | VCVTDQ2PD | VCVTTPD2DQ
+            | VFPCLASSPS | VFPCLASSPD | VCVTNEPS2BF16 | VCVTUQQ2PS | VCVTPD2DQ | VCVTTPS2UQQ | VCVTPS2UQQ
+            | VCVTTPS2QQ | VCVTPS2QQ
+    )
+}
+
+/// Answer 7: "a printed `{1toN}` with N above 16". Asked only of records that answers 4 and 5 let through. N is the
+/// width of the operand before, divided by mem_size and rounded down, or 0 where there is no width or no size.
+pub(crate) fn broadcast_refused(record: &Record) -> bool {
+    let opcode = Opcode::numbered(record.opcode);
+    if !record.broadcasts() || counts_by_length(opcode) {
+        return false;
+    }
+    let general_path = match arm(opcode, record) {
+        Arm::General | Arm::Incssp | Arm::Wrss => true,
+        Arm::Lsl => !record.slot(1).is_some_and(Slot::is_register),
+        _ => false,
+    };
+    let count = |place: usize| {
+        let width = record.slot(place - 1).and_then(Slot::width).unwrap_or(0);
+        width.checked_div(record.mem_size).unwrap_or(0)
+    };
+    general_path && (1..4).any(|place| record.slot(place).is_some_and(Slot::is_memory) && count(place) > 16)
 }

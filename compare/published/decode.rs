@@ -1,6 +1,7 @@
 //! `decode FOLDER [i386 ELF file]..`: instructions that the published crate decodes, as records. For
 //! each, 000's line on the crate's own decoder, names, labels and segment rules is compared with the
-//! oracle's. The code is the text section of each file, and two million tries of random bytes.
+//! oracle's. The code is the text section of each file, two million tries of random bytes, and one million of
+//! random bytes after the prefixes and opcodes that the vector instructions have.
 //! FOLDER gets `listing` and `lines`, for the listing program of mode 0.
 
 #[path = "elf.rs"]
@@ -9,15 +10,16 @@ mod elf;
 mod record_of;
 
 use elf::text_section;
-use oracle::{line_into, name_of, Sink};
+use oracle::{line_into, name_of, Sink, OPCODES};
 use record_of::record_of;
 use records::Random;
 use std::collections::{BTreeMap, HashMap};
 use std::panic::{catch_unwind, AssertUnwindSafe};
-use yaxpeax_x86::protected_mode::records::{fields, length, line};
+use yaxpeax_x86::protected_mode::records::{fields, has_evex, length, line};
 use yaxpeax_x86::protected_mode::{InstDecoder, Instruction};
 
 const RANDOM: usize = 2_000_000;
+const VECTOR: usize = 1_000_000;
 
 /// The first bytes of opcodes behind prefixes and pages, which random bytes hardly ever reach.
 const RARE: [&[u8]; 17] = [
@@ -48,6 +50,11 @@ struct Found {
     /// the same by name
     unheld: BTreeMap<String, usize>,
     same: usize,
+    /// lines of the crate with `{rne-sae}`
+    nearest: usize,
+    /// lines that are the same but for `mmword`: the crate's 000 looks for plain registers, and a register of an EVEX
+    /// instruction is another case there, also without a mask
+    mmword: (usize, String, String),
     /// records of ours, by answer, where the crate's 000 panics
     panics: BTreeMap<(u8, String), (usize, String)>,
     /// opcode -> how often, first body, both lines
@@ -61,7 +68,7 @@ fn main() {
     std::panic::set_hook(Box::new(|_| {}));
     let words: Vec<String> = std::env::args().skip(1).collect();
     let numbers: HashMap<String, u16> =
-        (0..154).map(|number| (name_of(number).to_uppercase(), number)).collect();
+        (0..OPCODES).map(|number| (name_of(number).to_uppercase(), number)).collect();
     let decoder = InstDecoder::default();
     let mut found = Found { listing: vec![1], ..Found::default() };
     for file in &words[1..] {
@@ -93,10 +100,53 @@ fn main() {
             found.compare(&instruction, &numbers);
         }
     }
+    for _ in 0..VECTOR {
+        let code = vector_code(&mut random);
+        if let Ok(instruction) = decoder.decode_slice(&code) {
+            found.compare(&instruction, &numbers);
+        }
+    }
     let ended = found.report();
     std::fs::write(format!("{}/listing", words[0]), &found.listing).expect("the folder can be written");
     std::fs::write(format!("{}/lines", words[0]), &found.lines).expect("the folder can be written");
     std::process::exit(ended)
+}
+
+/// Opcode bytes of the vector instructions by their page: 0F, 0F 38, 0F 3A.
+const PAGES: [&[u8]; 3] = [&[0x58, 0x5a, 0x5b, 0xe6, 0x78, 0x79, 0x7a, 0x7b], &[0xa0, 0xa1, 0x72], &[0x66]];
+
+/// An EVEX prefix, or now and then a VEX one, with all bits that 32-bit code can choose by chance, and an opcode. Most
+/// have no mask, since a register with one is in no record.
+fn vector_code(random: &mut Random) -> [u8; 15] {
+    let mut code = [0; 15];
+    code.fill_with(|| random.byte());
+    let page = random.pick(&[0, 0, 0, 0, 1, 1, 2]);
+    let at = random.below(2);
+    // segments and a size of addresses may stand before it
+    code[0] = random.pick(&[0x64, 0x65, 0x67, 0x3e, 0x2e]);
+    if random.chance(1, 8) {
+        code[at] = 0xc5;
+        code[at + 1] |= 0xc0;
+        code[at + 2] = random.pick(PAGES[0]);
+        return code;
+    }
+    code[at] = 0x62;
+    code[at + 1] = 0xf0 | 1 + page as u8;
+    code[at + 2] = random.byte() | 0x04;
+    code[at + 3] = random.byte() | 0x08;
+    // vvvv is for those with three operands
+    if random.chance(3, 4) {
+        code[at + 2] |= 0x78;
+    }
+    if page != 1 && random.chance(3, 4) {
+        code[at + 3] &= 0x78;
+    }
+    code[at + 4] = random.pick(PAGES[page]);
+    // the decoder takes a VPSCATTER without an index, and a processor does not
+    if page == 1 && random.chance(7, 8) {
+        code[at + 5] = random.pick(&[0x04, 0x44, 0x84]) | code[at + 5] & 0x38;
+    }
+    code
 }
 
 impl Found {
@@ -118,6 +168,11 @@ impl Found {
         *self.opcodes.entry(opcode).or_default() += 1;
         let mut theirs = String::new();
         let printed = catch_unwind(AssertUnwindSafe(|| line(instruction, &mut theirs)));
+        // version 2.0.0 has a word of its own for the Intel manual's
+        if let Some(manual) = theirs.strip_suffix("{rne-sae}") {
+            theirs = format!("{manual}{{rn-sae}}");
+            self.nearest += 1;
+        }
         let mut ours = Sink::default();
         let answer = line_into(&body, 0, &mut ours).expect("000 prints what document 01 accepts");
         let hex: String = body.iter().map(|byte| format!("{byte:02X}")).collect();
@@ -134,6 +189,11 @@ impl Found {
             case.0 += 1;
         } else if ours == theirs {
             self.same += 1;
+        } else if has_evex(instruction) && ours.replace("mmword ptr", "qword ptr") == theirs {
+            if self.mmword.0 == 0 {
+                self.mmword = (0, ours, theirs);
+            }
+            self.mmword.0 += 1;
         } else {
             let case = self.differ.entry(kind_of_difference(name_of(opcode), &ours, &theirs)).or_insert((0, hex, ours, theirs));
             case.0 += 1;
@@ -148,6 +208,9 @@ impl Found {
         );
         let unheld: Vec<String> = self.unheld.iter().map(|(name, count)| format!("{name} {count}")).collect();
         println!("no record holds: {}", unheld.join(", "));
+        println!("the crate's {{rne-sae}} taken for {{rn-sae}}: {} times", self.nearest);
+        let (times, ours, theirs) = &self.mmword;
+        println!("EVEX, and `qword` where we have `mmword`: {times} times, first\n  ours   {ours}\n  crate  {theirs}");
         for ((answer, name), (count, body)) in &self.panics {
             println!("the crate's 000 panics, we answer {answer}: {name}, {count} times, first {body}");
         }
@@ -155,7 +218,7 @@ impl Found {
             println!("DIFFERENT {what}, {count} times\n  body   {body}\n  ours   {ours}\n  crate  {theirs}");
         }
         let never: Vec<&str> =
-            (0..154).filter(|number| !self.opcodes.contains_key(number)).map(name_of).collect();
+            (0..OPCODES).filter(|number| !self.opcodes.contains_key(number)).map(name_of).collect();
         println!("never decoded: {}", never.join(" "));
         !self.differ.is_empty() as i32
     }

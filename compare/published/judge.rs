@@ -2,7 +2,8 @@
 //! the published crate decoded; a few of each opcode and form are taken. ASMC and AS are programs (`-`:
 //! none): ASMC FILE.asm leaves FILE.bin, AS FILE.s -o FILE.o an ELF object. The bytes go back through the
 //! published crate's decoder, and the record there is held to the record that the line came from:
-//! operands and segments; of branches, in both modes, where they go and how long they are. Status 1: asmc gives an
+//! operands and segments; of branches, in both modes, where they go and how long they are. The vector opcodes are asked
+//! of AS alone: asmc puts a prefix byte after the first byte of EVEX code. Status 1: asmc gives an
 //! accepted mode 1 branch another target, or another length where no byte of the record is needless; or GNU as, which
 //! passes over the words, another target.
 
@@ -14,7 +15,7 @@ mod elf;
 mod record_of;
 
 use branches::{edges, target, wraps, Table};
-use oracle::{is_branch, line_into, name_of, Record, Sink};
+use oracle::{is_branch, line_into, name_of, Record, Sink, OPCODES};
 use record_of::record_of;
 use std::collections::{BTreeMap, BTreeSet, HashMap};
 use std::process::{Command, Stdio};
@@ -26,6 +27,9 @@ use yaxpeax_x86::protected_mode::InstDecoder;
 const OF_AN_OPCODE: usize = 12;
 const WRAPPED: usize = 3;
 const ELSEWHERE: usize = 4;
+
+/// The first of the vector opcodes.
+const VECTOR: u16 = 154;
 
 #[derive(Clone, Copy, PartialEq, Eq, PartialOrd, Ord, Debug)]
 enum Judge {
@@ -51,7 +55,7 @@ fn main() {
     let listing = std::fs::read(listing).expect("the listing can be read");
     let sample = sample(&listing);
     let numbers: HashMap<String, u16> =
-        (0..154).map(|number| (name_of(number).to_uppercase(), number)).collect();
+        (0..OPCODES).map(|number| (name_of(number).to_uppercase(), number)).collect();
     // a line once, with the first record that prints it; branches in both modes, once for each target and length
     let mut asked: Vec<(Record, String)> = Vec::new();
     let mut branches: Vec<Record> = Vec::new();
@@ -75,32 +79,17 @@ fn main() {
             println!("\n{judge:?}: not run");
             continue;
         }
-        let mut table: BTreeMap<String, Vec<(String, String)>> = BTreeMap::new();
-        for (record, line) in &asked {
-            let (verdict, seen) = verdict(judge, folder, program, record, line, &numbers);
-            table.entry(verdict).or_default().push((line.clone(), seen));
-        }
-        println!("\n{judge:?}");
-        for (verdict, lines) in &table {
-            println!("  {:5}  {verdict}", lines.len());
-        }
-        for (verdict, lines) in &table {
-            if verdict.starts_with("as the record") {
+        for (vector, what) in [(false, format!("{judge:?}")), (true, format!("{judge:?}, vector opcodes"))] {
+            if vector && judge == Judge::Asmc {
+                println!("\n{what}: not asked; asmc puts prefixes after the first byte of EVEX code");
                 continue;
             }
-            println!("\n{judge:?}, {verdict}:");
-            let mut names: BTreeMap<&str, usize> = BTreeMap::new();
-            let few = verdict.contains("refused, a lone");
-            for (at, (line, seen)) in lines.iter().enumerate() {
-                let name = line.split(' ').next().unwrap_or("");
-                let before = names.entry(name).or_default();
-                *before += 1;
-                if if few { at < 5 } else { *before <= 2 } {
-                    println!("    {line:60} {seen}");
-                }
+            let mut table: BTreeMap<String, Vec<(String, String)>> = BTreeMap::new();
+            for (record, line) in asked.iter().filter(|(record, _)| vector == (record.opcode >= VECTOR)) {
+                let (verdict, seen) = verdict(judge, folder, program, record, line, &numbers);
+                table.entry(verdict).or_default().push((line.clone(), seen));
             }
-            let names: Vec<String> = names.iter().map(|(name, count)| format!("{name} {count}")).collect();
-            println!("  = {}", names.join(", "));
+            print(&what, &table);
         }
         for mode in [0, 1] {
             let mut table = Table::default();
@@ -114,6 +103,32 @@ fn main() {
         }
     }
     std::process::exit(if kept { 0 } else { 1 })
+}
+
+/// What came of the lines, verdict by verdict, and a few lines of each that are not as the record.
+fn print(judge: &str, table: &BTreeMap<String, Vec<(String, String)>>) {
+    println!("\n{judge}");
+    for (verdict, lines) in table {
+        println!("  {:5}  {verdict}", lines.len());
+    }
+    for (verdict, lines) in table {
+        if verdict.starts_with("as the record") {
+            continue;
+        }
+        println!("\n{judge}, {verdict}:");
+        let mut names: BTreeMap<&str, usize> = BTreeMap::new();
+        let few = verdict.contains("refused, a lone") && lines.len() > 20;
+        for (at, (line, seen)) in lines.iter().enumerate() {
+            let name = line.split(' ').next().unwrap_or("");
+            let before = names.entry(name).or_default();
+            *before += 1;
+            if if few { at < 5 } else { *before <= 2 } {
+                println!("    {line:60} {seen}");
+            }
+        }
+        let names: Vec<String> = names.iter().map(|(name, count)| format!("{name} {count}")).collect();
+        println!("  = {}", names.join(", "));
+    }
 }
 
 /// The line of an accepted record.

@@ -4,7 +4,7 @@ use oracle::{Record, Slot};
 use yaxpeax_x86::protected_mode::records::Fields;
 
 pub fn record_of(opcode: u16, parts: &Fields) -> Record {
-    let slot = |[kind, segment, first, second, scale]: [u8; 5]| Slot { kind, segment, first, second, scale };
+    let slot = |[kind, segment, first, second, scale, mask]: [u8; 6]| Slot { kind, segment, first, second, scale, mask };
     Record {
         opcode,
         flags: parts.flags,
@@ -14,5 +14,7 @@ pub fn record_of(opcode: u16, parts: &Fields) -> Record {
         disp: parts.disp as i32,
         count: parts.count,
         slots: parts.slots.map(slot),
+        length_bits: parts.length_bits,
+        tail: parts.tail,
     }
 }

@@ -26,15 +26,15 @@ pub struct Fields {
     pub imm: u32,
     pub disp: u32,
     pub count: u8,
-    pub slots: [[u8; 5]; 4],
+    pub slots: [[u8; 6]; 4],
+    pub length_bits: u8,
+    pub tail: u8,
 }
 
-/// The record of an instruction, if document 01 has one.
+/// The record of an instruction, if document 01 or W-204 has one. A register with a mask of its own has none.
 pub fn fields(instruction: &Instruction) -> Option<Fields> {
     let prefixes = &instruction.prefixes;
-    if prefixes.evex().is_some() {
-        return None;
-    }
+    let evex = prefixes.evex();
     let bits = [
         instruction.xacquire(),
         instruction.xrelease(),
@@ -42,8 +42,9 @@ pub fn fields(instruction: &Instruction) -> Option<Fields> {
         prefixes.rep(),
         prefixes.repnz(),
         prefixes.operand_size(),
+        evex.is_some_and(|evex| evex.broadcast()),
     ];
-    let mut slots = [[0; 5]; 4];
+    let mut slots = [[0; 6]; 4];
     for place in 0..instruction.operand_count {
         slots[place as usize] = slot(instruction, place)?;
     }
@@ -55,7 +56,18 @@ pub fn fields(instruction: &Instruction) -> Option<Fields> {
         disp: instruction.disp,
         count: instruction.operand_count,
         slots,
+        length_bits: evex.map_or(0, |evex| evex.vex().l() as u8 + 2 * evex.lp() as u8),
+        tail: match instruction.operands[0] {
+            OperandSpec::RegRRR_maskmerge_sae => 2,
+            OperandSpec::RegRRR_maskmerge_sae_noround | OperandSpec::RegMMM_maskmerge_sae_noround => 1,
+            _ => 0,
+        },
     })
+}
+
+/// Whether its registers may have masks: 000 on the crate then does not see that they are vector registers.
+pub fn has_evex(instruction: &Instruction) -> bool {
+    instruction.prefixes.evex().is_some()
 }
 
 pub fn length(instruction: &Instruction) -> u32 {
@@ -63,15 +75,25 @@ pub fn length(instruction: &Instruction) -> u32 {
     0u32.wrapping_offset(instruction.len()).to_linear() as u32
 }
 
-/// Kind, segment, first and second register, scale.
-fn slot(instruction: &Instruction, place: u8) -> Option<[u8; 5]> {
-    let [in_r, in_m, third, _] = instruction.regs;
+/// Kind, segment, first and second register, scale, mask.
+fn slot(instruction: &Instruction, place: u8) -> Option<[u8; 6]> {
+    let [in_r, in_m, third, in_vex] = instruction.regs;
     let scale = instruction.scale;
+    // k0 is no mask, and zeroing goes with one
+    let masked = instruction.prefixes.evex().map_or(0, |evex| evex.mask_reg());
+    let plain = |kind: u8, reg: RegSpec| if masked == 0 { Some((kind, register(reg)?, 0, 0)) } else { None };
     let esi = RegSpec::esi();
     let edi = RegSpec::edi();
     let (kind, first, second, scale) = match instruction.operands[place as usize] {
         OperandSpec::RegRRR => (1, register(in_r)?, 0, 0),
         OperandSpec::RegMMM => (2, register(in_m)?, 0, 0),
+        // the third register of an instruction has no place of its own in a record, and prints alike in either
+        OperandSpec::RegVex => (1, register(in_vex)?, 0, 0),
+        OperandSpec::RegRRR_maskmerge
+        | OperandSpec::RegRRR_maskmerge_sae
+        | OperandSpec::RegRRR_maskmerge_sae_noround => plain(1, in_r)?,
+        OperandSpec::RegMMM_maskmerge | OperandSpec::RegMMM_maskmerge_sae_noround => plain(2, in_m)?,
+        OperandSpec::RegVex_maskmerge => plain(1, in_vex)?,
         OperandSpec::ImmI8 => (3, 0, 0, 0),
         OperandSpec::ImmI16 => (4, 0, 0, 0),
         OperandSpec::ImmI32 => (5, 0, 0, 0),
@@ -89,6 +111,12 @@ fn slot(instruction: &Instruction, place: u8) -> Option<[u8; 5]> {
         OperandSpec::MemIndexScaleDisp => (14, register(third)?, 0, scale),
         OperandSpec::MemBaseIndexScale => (15, register(in_m)?, register(third)?, scale),
         OperandSpec::MemBaseIndexScaleDisp => (16, register(in_m)?, register(third)?, scale),
+        OperandSpec::Deref_mask => (17, register(in_m)?, 0, 0),
+        OperandSpec::Disp_mask => (18, register(in_m)?, 0, 0),
+        OperandSpec::MemIndexScale_mask => (19, register(third)?, 0, scale),
+        OperandSpec::MemIndexScaleDisp_mask => (20, register(third)?, 0, scale),
+        OperandSpec::MemBaseIndexScale_mask => (21, register(in_m)?, register(third)?, scale),
+        OperandSpec::MemBaseIndexScaleDisp_mask => (22, register(in_m)?, register(third)?, scale),
         _ => return None,
     };
     let segment = match instruction.segment_override_for_op(place) {
@@ -101,7 +129,8 @@ fn slot(instruction: &Instruction, place: u8) -> Option<[u8; 5]> {
         Some(Segment::FS) => 5,
         Some(Segment::GS) => 6,
     };
-    Some([kind, segment, first, second, scale])
+    let mask = if kind > 16 { register(RegSpec::mask(masked))? } else { 0 };
+    Some([kind, segment, first, second, scale, mask])
 }
 
 fn register(register: RegSpec) -> Option<u8> {
@@ -114,6 +143,8 @@ fn register(register: RegSpec) -> Option<u8> {
         RegisterBank::MM => 5,
         RegisterBank::X => 6,
         RegisterBank::Y => 7,
+        RegisterBank::Z => 8,
+        RegisterBank::K => 9,
         _ => return None,
     };
     (register.num < 8).then_some(8 * bank + register.num)

@@ -1,5 +1,5 @@
-//! Lines of a grammar of their own: numbers in all radixes, both cases, blanks, brackets side by side, signs, parentheses, widths,
-//! prefixes and comments; and some of them damaged.
+//! Lines of a grammar of their own: numbers in all radixes, both cases, blanks, brackets side by side, signs, parentheses, widths, masks,
+//! broadcasts, tails, prefixes and comments; and some of them damaged.
 
 pub struct Random(pub u64);
 
@@ -204,10 +204,28 @@ fn misplaced(r: &mut Random) -> String {
     }
 }
 
+/// A mask, a broadcast or both after an address. asmc knows no k0 there, and no N but these four, which it does not tell apart.
+fn decorations(r: &mut Random) -> String {
+    let mask = format!("{}{{k{}}}", blank(r), r.of(&[0, 1, 1, 2, 3, 4, 5, 6, 7]));
+    let broadcast = format!("{}{{1to{}}}", blank(r), r.of(&[2, 4, 8, 8, 8, 16, 16, 5, 31]));
+    match r.below(8) {
+        0 => String::new(),
+        1..=3 => mask,
+        4 | 5 => broadcast,
+        6 => format!("{mask}{broadcast}"),
+        _ => r.of(&["{k8}", "{}", "{1to}", "{1to0x4}", "{k1}{k2}", "{1to8}{k1}", "{z}"]).into(),
+    }
+}
+
+fn tail(r: &mut Random) -> String {
+    format!("{}{}", blank(r), r.of(&["{sae}", "{rn-sae}", "{rd-sae}", "{ru-sae}", "{rz-sae}", "{rn}", ""]))
+}
+
 fn instruction(r: &mut Random) -> String {
     let comma = format!("{},{}", blank(r), blank(r));
     let general = r.of(&GENERAL);
-    match r.below(24) {
+    let wide = |r: &mut Random| format!("zmm{}", r.below(8));
+    match r.below(28) {
         0 | 1 => format!("push {}", constant(r, 3)),
         2 => format!("mov {general}{comma}{}", constant(r, 3)),
         3 => format!("{} {general}{comma}{}", r.of(&["add", "sub", "cmp", "and", "xor"]), constant(r, 2)),
@@ -227,6 +245,15 @@ fn instruction(r: &mut Random) -> String {
         20 => format!("{} xmm{}{comma}{}", r.of(&["movaps", "addps"]), r.below(8), if r.once_in(2) { format!("xmm{}", r.below(8)) } else { typed(r, &["xmmword", "oword"]) }),
         21 => format!("{} {}", r.of(&["rep", "REPE", "repz", "repne", "repnz"]), r.of(&["movsb", "cmpsb", "scasb", "stosd"])),
         22 => format!("lock inc {}", typed(r, &DWORD)),
+        23 => format!("{} {}{}{comma}{}", r.of(&["vmovapd", "vmovups", "vmovdqu32"]), memory(r), decorations(r), wide(r)),
+        24 => format!("vaddpd {}{comma}{}{comma}{}{}", wide(r), wide(r), typed(r, &["qword", "zmmword"]), decorations(r)),
+        25 => format!("{} {}{comma}{}{comma}{}{}", r.of(&["vaddpd", "vmulps"]), wide(r), wide(r), wide(r), tail(r)),
+        26 => match r.below(4) {
+            0 => format!("kandw k{}{comma}k{}{comma}k{}", r.below(8), r.below(8), r.below(8)),
+            1 => format!("kmovd {general}{comma}k{}", r.below(8)),
+            2 => format!("vaddps {}{comma}{}{comma}{}{}{}", wide(r), wide(r), memory(r), decorations(r), tail(r)),
+            _ => format!("vaddps {}{}{comma}{}{}{comma}{}", wide(r), decorations(r), wide(r), tail(r), wide(r)),
+        },
         _ => format!("{} dword ptr {general}", r.of(&["inc", "neg", "push"])),
     }
 }
@@ -244,8 +271,8 @@ fn damaged(r: &mut Random, text: String) -> String {
     let at = r.below(bytes.len());
     match r.below(3) {
         0 => drop(bytes.remove(at)),
-        1 => bytes[at] = r.of(b"+-*()[]:,$;h0 5"),
-        _ => bytes.insert(at, r.of(b"+-*()[]:,$;h0 5")),
+        1 => bytes[at] = r.of(b"+-*()[]{}:,$;h0 5"),
+        _ => bytes.insert(at, r.of(b"+-*()[]{}:,$;h0 5")),
     }
     String::from_utf8(bytes).unwrap()
 }

@@ -68,7 +68,9 @@ fn operand_forms(operand: &Operand) -> Vec<String> {
             let word = port::WIDTHS.iter().find(|w| Some(w.1) == *width).map_or(String::new(), |w| format!("{} ", w.0));
             vec![format!("{word}$ {}", signed(*target))]
         }
-        Operand::Address(label, segment, counts, disp) => {
+        Operand::Address { label, segment, counts, disp, mask, broadcast } => {
+            let mask = mask.map_or(String::new(), |mask| format!("{{{}}}", port::register_name(mask)));
+            let broadcast = broadcast.map_or(String::new(), |n| format!("{{1to{n}}}"));
             let label = label.map_or(String::new(), |label| format!("{label} ptr "));
             let segment = segment.map_or(String::new(), |segment| format!("{}:", port::register_name(segment)));
             let inside = if counts.is_empty() {
@@ -76,7 +78,7 @@ fn operand_forms(operand: &Operand) -> Vec<String> {
             } else {
                 registers(counts).into_iter().map(|form| if *disp == 0 { form } else { format!("{form} {}", signed(*disp)) }).collect()
             };
-            inside.into_iter().map(|inside| format!("{label}{segment}[{inside}]")).collect()
+            inside.into_iter().map(|inside| format!("{label}{segment}[{inside}]{mask}{broadcast}")).collect()
         }
     }
 }
@@ -84,7 +86,7 @@ fn operand_forms(operand: &Operand) -> Vec<String> {
 /// A lone number in a bracket, without a segment: MASM takes it for an immediate, and the reader for an address.
 fn is_lone(reading: &Reading) -> bool {
     let Reading::Shows { operands, .. } = reading else { return false };
-    operands.iter().any(|operand| matches!(operand, Operand::Address(_, None, counts, _) if counts.is_empty()))
+    operands.iter().any(|operand| matches!(operand, Operand::Address { segment: None, counts, .. } if counts.is_empty()))
 }
 
 /// The code ends in the distance, in as many bits as were read; true where no width was read.
@@ -96,12 +98,15 @@ fn is_as_wide(reading: &Reading, code: &[u8]) -> bool {
 }
 
 fn forms(reading: &Reading) -> Vec<String> {
-    let Reading::Shows { prefixes, mnemonic, operands } = reading else { return vec![] };
+    let Reading::Shows { prefixes, mnemonic, operands, tail } = reading else { return vec![] };
     let head: String = prefixes.iter().map(|prefix| prefix.to_ascii_lowercase() + " ").collect::<String>() + mnemonic;
     let mut forms = vec![head];
     for (at, operand) in operands.iter().enumerate() {
         let between = if at == 0 { " " } else { ", " };
         forms = forms.iter().flat_map(|form| operand_forms(operand).into_iter().map(move |more| format!("{form}{between}{more}"))).collect();
+    }
+    if let Some(tail) = tail {
+        forms.iter_mut().for_each(|form| *form += &format!(" {tail}"));
     }
     forms
 }
@@ -112,14 +117,15 @@ fn forms(reading: &Reading) -> Vec<String> {
 const MARK: [u8; 8] = [0xF1, 0xE2, 0xD3, 0xC4, 0xB5, 0xA6, 0x97, 0x88];
 const HEAD: &str = ".686p\n.mmx\n.xmm\n.model flat\nassume fs:nothing, gs:nothing\n.code\n";
 
-/// Every parenthesis and bracket is closed by its like, up to the comment. Any other line asmc refuses, but only at the end of the file.
+/// Every parenthesis, bracket and brace is closed by its like, up to the comment. Any other line asmc refuses, but only at the end of the file.
 fn is_closed(line: &str) -> bool {
     let mut open = Vec::new();
     for c in line.split(';').next().unwrap().chars() {
         match c {
-            '(' | '[' => open.push(c),
+            '(' | '[' | '{' => open.push(c),
             ')' if open.pop() != Some('(') => return false,
             ']' if open.pop() != Some('[') => return false,
+            '}' if open.pop() != Some('{') => return false,
             _ => {}
         }
     }
@@ -228,17 +234,22 @@ fn list(items: impl Iterator<Item = String>) -> String {
     if items.is_empty() { "[]".into() } else { format!("({items}[])") }
 }
 
+fn option(name: Option<String>) -> String {
+    name.map_or("none".into(), |name| format!("(some {name})"))
+}
+
 fn of_antt(operand: &Operand) -> String {
-    let option = |name: Option<String>| name.map_or("none".into(), |name| format!("(some {name})"));
     match operand {
         Operand::Register(r) => format!("register {r}"),
         Operand::Immediate(n) => format!("immediate {n}"),
         Operand::Branch(width, target) => format!("branch {} {target}", option(width.map(|width| width.to_string()))),
-        Operand::Address(label, segment, counts, disp) => {
+        Operand::Address { label, segment, counts, disp, mask, broadcast } => {
             let label = option(label.map(|label| label[..1].to_uppercase() + &label[1..]));
             let segment = option(segment.map(|segment| segment.to_string()));
             let counts = list(counts.iter().map(|(r, n)| format!("({r}, {n})")));
-            format!("address {label} {segment} (timesIn {counts}) {disp}")
+            let mask = option(mask.map(|mask| mask.to_string()));
+            let broadcast = option(broadcast.map(|n| n.to_string()));
+            format!("address {label} {segment} (timesIn {counts}) {disp} {mask} {broadcast}")
         }
     }
 }
@@ -254,9 +265,10 @@ fn stored(count: u64, seed: u64) {
         let reading = match port::read(0x1000, &line) {
             Reading::NoInstruction => "no-instruction".into(),
             Reading::Refused => "refused".into(),
-            Reading::Shows { prefixes, mnemonic, operands } => {
+            Reading::Shows { prefixes, mnemonic, operands, tail } => {
+                let tail = option(port::TAILS.iter().find(|entry| Some(entry.0) == tail).map(|entry| entry.1.into()));
                 let prefixes = list(prefixes.iter().map(|prefix| prefix.to_string()));
-                format!("says {prefixes} \"{mnemonic}\" {}", list(operands.iter().map(of_antt)))
+                format!("says {prefixes} \"{mnemonic}\" {} {tail}", list(operands.iter().map(of_antt)))
             }
         };
         entries.push(format!("    (\"{}\", {reading}) ∷\n", line.replace('\t', "\\t")));

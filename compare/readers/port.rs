@@ -41,16 +41,25 @@ fn uncommented(mut tokens: Vec<Token>) -> Vec<Token> {
 // ---- Numbers and registers
 
 pub fn numeral(word: &str) -> Option<u32> {
-    if !word.starts_with(|c: char| c.is_ascii_digit()) {
-        return None;
-    }
-    let (digits, base) = match word.as_bytes().last().unwrap() {
+    let (digits, base) = match word.as_bytes().last()? {
         b'h' => (&word[..word.len() - 1], 16),
         b'd' | b't' => (&word[..word.len() - 1], 10),
         b'o' | b'q' => (&word[..word.len() - 1], 8),
         b'b' | b'y' => (&word[..word.len() - 1], 2),
         _ => (word, 10),
     };
+    value_of(word, digits, base)
+}
+
+fn decimal(word: &str) -> Option<u32> {
+    value_of(word, word, 10)
+}
+
+/// The value of the digits of a word, which begins with one.
+fn value_of(word: &str, digits: &str, base: u32) -> Option<u32> {
+    if !word.starts_with(|c: char| c.is_ascii_digit()) {
+        return None;
+    }
     let mut value: u128 = 0;
     for c in digits.chars() {
         value = (value * base as u128 + c.to_digit(base)? as u128).min(1 << 64);
@@ -58,7 +67,7 @@ pub fn numeral(word: &str) -> Option<u32> {
     u32::try_from(value).ok()
 }
 
-pub const CLASSES: [&[&str]; 8] = [
+pub const CLASSES: [&[&str]; 10] = [
     &["eax", "ecx", "edx", "ebx", "esp", "ebp", "esi", "edi"],
     &["ax", "cx", "dx", "bx", "sp", "bp", "si", "di"],
     &["al", "cl", "dl", "bl", "ah", "ch", "dh", "bh"],
@@ -67,6 +76,8 @@ pub const CLASSES: [&[&str]; 8] = [
     &["mm0", "mm1", "mm2", "mm3", "mm4", "mm5", "mm6", "mm7"],
     &["xmm0", "xmm1", "xmm2", "xmm3", "xmm4", "xmm5", "xmm6", "xmm7"],
     &["ymm0", "ymm1", "ymm2", "ymm3", "ymm4", "ymm5", "ymm6", "ymm7"],
+    &["zmm0", "zmm1", "zmm2", "zmm3", "zmm4", "zmm5", "zmm6", "zmm7"],
+    &["k0", "k1", "k2", "k3", "k4", "k5", "k6", "k7"],
 ];
 
 pub fn register_name(register: u8) -> &'static str {
@@ -77,7 +88,7 @@ fn register(ts: &[Token]) -> Option<u8> {
     if ts == [Word("st".into())] {
         return Some(32);
     }
-    (0..64).filter(|r| r / 8 != 3 || r % 8 < 6).find(|r| tokens(register_name(*r)) == ts)
+    (0..80).filter(|r| r / 8 != 3 || r % 8 < 6).find(|r| tokens(register_name(*r)) == ts)
 }
 
 // ---- Values
@@ -241,7 +252,7 @@ pub enum Operand {
     Register(u8),
     Immediate(u32),
     Branch(Option<usize>, u32),
-    Address(Option<&'static str>, Option<u8>, Vec<(u8, u128)>, u32),
+    Address { label: Option<&'static str>, segment: Option<u8>, counts: Vec<(u8, u128)>, disp: u32, mask: Option<u8>, broadcast: Option<u32> },
 }
 
 pub fn wrapped(number: i128) -> u32 {
@@ -269,7 +280,8 @@ fn operand(start: u32, ts: &[Token]) -> Option<Operand> {
     };
     let v = expression(ts)?;
     if v.bracket || segment.is_some() {
-        (width.is_none() && v.starts == 0).then(|| Operand::Address(label, segment, v.counts, wrapped(v.number)))
+        let disp = wrapped(v.number);
+        (width.is_none() && v.starts == 0).then_some(Operand::Address { label, segment, counts: v.counts, disp, mask: None, broadcast: None })
     } else if v.starts == 1 && label.is_none() {
         Some(Operand::Branch(width, wrapped(i128::from(start) + v.number)))
     } else {
@@ -277,7 +289,45 @@ fn operand(start: u32, ts: &[Token]) -> Option<Operand> {
     }
 }
 
+/// `{k1}` in front of some tokens, and the tokens after it.
+fn front_mask(ts: &[Token]) -> (Option<u8>, &[Token]) {
+    let found = (72..80).find_map(|r| Some((Some(r), ts.strip_prefix(&tokens(&format!("{{{}}}", register_name(r)))[..])?)));
+    found.unwrap_or((None, ts))
+}
+
+/// `{1to16}` in front of some tokens, and the tokens after it.
+fn front_broadcast(ts: &[Token]) -> (Option<u32>, &[Token]) {
+    match ts {
+        [Sign(b'{'), Word(w), Sign(b'}'), rest @ ..] => match w.strip_prefix("1to").and_then(decimal) {
+            Some(n) => (Some(n), rest),
+            None => (None, ts),
+        },
+        _ => (None, ts),
+    }
+}
+
+fn decorated(start: u32, ts: &[Token]) -> Option<Operand> {
+    let at = ts.iter().position(|token| *token == Sign(b'{')).unwrap_or(ts.len());
+    let (mask, rest) = front_mask(&ts[at..]);
+    let (broadcast, rest) = front_broadcast(rest);
+    if !rest.is_empty() {
+        return None;
+    }
+    match operand(start, &ts[..at])? {
+        Operand::Address { label, segment, counts, disp, .. } => Some(Operand::Address { label, segment, counts, disp, mask, broadcast }),
+        other => (mask.is_none() && broadcast.is_none()).then_some(other),
+    }
+}
+
 // ---- Lines
+
+/// The tails, each with its name in crates/masm.
+pub const TAILS: [(&str, &str); 5] = [("{sae}", "Sae"), ("{rn-sae}", "Nearest"), ("{rd-sae}", "Down"), ("{ru-sae}", "Up"), ("{rz-sae}", "Zero")];
+
+/// The tail that some tokens end in, and the tokens before it.
+fn back_tail(ts: &[Token]) -> (Option<&'static str>, &[Token]) {
+    TAILS.iter().find_map(|tail| Some((Some(tail.0), ts.strip_suffix(&tokens(tail.0)[..])?))).unwrap_or((None, ts))
+}
 
 pub const PREFIXES: [(&str, &str); 8] = [
     ("xacquire", "Xacquire"),
@@ -292,7 +342,7 @@ pub const PREFIXES: [(&str, &str); 8] = [
 
 #[derive(Clone, Debug, PartialEq, Eq)]
 pub enum Reading {
-    Shows { prefixes: Vec<&'static str>, mnemonic: String, operands: Vec<Operand> },
+    Shows { prefixes: Vec<&'static str>, mnemonic: String, operands: Vec<Operand>, tail: Option<&'static str> },
     NoInstruction,
     Refused,
 }
@@ -309,11 +359,12 @@ fn line(start: u32, mut ts: &[Token]) -> Option<Reading> {
         if !w.starts_with(|c: char| c.is_ascii_alphabetic()) {
             return None;
         }
+        let (tail, before) = back_tail(ts);
         let operands = match ts {
             [] => vec![],
-            _ => ts.split(|token| *token == Sign(b',')).map(|part| operand(start, part)).collect::<Option<_>>()?,
+            _ => before.split(|token| *token == Sign(b',')).map(|part| decorated(start, part)).collect::<Option<_>>()?,
         };
-        return Some(Reading::Shows { prefixes, mnemonic: w.clone(), operands });
+        return Some(Reading::Shows { prefixes, mnemonic: w.clone(), operands, tail });
     }
 }
 

@@ -1,4 +1,4 @@
-//! The ways in which document 01 lets a body be wrong.
+//! The ways in which document 01 lets a body be wrong. Some make an extended record of it, which then lacks bytes.
 
 use crate::Random;
 use oracle::Record;

@@ -1,10 +1,10 @@
-//! Records that keep the record rules.
+//! Records that keep the record rules and are not extended.
 
 use crate::numbers::{mem_size, number};
 use crate::Random;
 use oracle::{Record, Slot};
 
-/// A record of any opcode. Three times out of four its operands suit the opcode, so that most lines
+/// A record of any opcode that is not a vector one. Three times out of four its operands suit the opcode, so that most lines
 /// print; else they are any operands.
 pub fn record(random: &mut Random) -> Record {
     let opcode = random.below(154) as u16;
@@ -29,7 +29,7 @@ pub fn record(random: &mut Random) -> Record {
 }
 
 /// Flags are rare in code, so half of all records have none.
-fn flags(random: &mut Random) -> u8 {
+pub(crate) fn flags(random: &mut Random) -> u8 {
     match random.below(4) {
         0 | 1 => 0,
         2 => 1 << random.below(6),
@@ -49,7 +49,7 @@ fn any(random: &mut Random) -> Slot {
 }
 
 /// Operands as the opcode's arm wants them; opcodes by document 01's numbers.
-fn suited(random: &mut Random, opcode: u16) -> Vec<Slot> {
+pub(crate) fn suited(random: &mut Random, opcode: u16) -> Vec<Slot> {
     let spare = |random: &mut Random, mut slots: Vec<Slot>| {
         // now and then further operands, which the arm drops or the general path prints
         while slots.len() < 4 && random.chance(1, 6) {
@@ -102,6 +102,7 @@ fn suited(random: &mut Random, opcode: u16) -> Vec<Slot> {
 
 fn register(random: &mut Random, kind: u8) -> Slot {
     loop {
+        // banks 8 and 9 are right in extended records alone
         let first = random.below(64) as u8;
         if oracle::record::is_register(first) {
             return Slot { kind, first, ..Slot::default() };
@@ -109,7 +110,7 @@ fn register(random: &mut Random, kind: u8) -> Slot {
     }
 }
 
-fn banked(random: &mut Random, bank: u8) -> Slot {
+pub(crate) fn banked(random: &mut Random, bank: u8) -> Slot {
     let number = random.below(if bank == 3 { 6 } else { 8 }) as u8;
     Slot { kind: random.pick(&[1, 2]), first: 8 * bank + number, ..Slot::default() }
 }
@@ -123,11 +124,11 @@ fn stack(random: &mut Random, kind: u8) -> Slot {
     }
 }
 
-fn immediate(random: &mut Random) -> Slot {
+pub(crate) fn immediate(random: &mut Random) -> Slot {
     Slot { kind: 3 + random.below(6) as u8, ..Slot::default() }
 }
 
-fn memory(random: &mut Random) -> Slot {
+pub(crate) fn memory(random: &mut Random) -> Slot {
     let kind = 9 + random.below(8) as u8;
     let address = |random: &mut Random| random.below(16) as u8;
     Slot {
@@ -136,5 +137,6 @@ fn memory(random: &mut Random) -> Slot {
         first: if kind >= 11 { address(random) } else { 0 },
         second: if kind >= 15 { address(random) } else { 0 },
         scale: if kind >= 13 { random.pick(&[1, 2, 4, 8]) } else { 0 },
+        mask: 0,
     }
 }

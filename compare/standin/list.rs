@@ -38,7 +38,7 @@ fn cut(run: &Run, output: &mut impl Write) -> std::io::Result<String> {
 
 fn frames(mode: u32, input: &mut impl Read, output: &mut impl Write, run: &mut Run) -> std::io::Result<String> {
     let mut body = Vec::new();
-    let mut text = [0; 256];
+    let mut text = [0; 320];
     run.at = 1;
     loop {
         let mut length = [0; 2];

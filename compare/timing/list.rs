@@ -7,7 +7,7 @@ use core::ptr::addr_of_mut;
 
 const SIZE: usize = 1 << 16;
 /// A line, its newline, and some to spare.
-const LINE: usize = 300;
+const LINE: usize = 330;
 
 static mut INPUT: [u8; SIZE] = [0; SIZE];
 static mut OUTPUT: [u8; SIZE] = [0; SIZE];

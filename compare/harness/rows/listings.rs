@@ -29,6 +29,20 @@ pub(super) fn listings(rows: &mut Rows) {
     }
 }
 
+/// Extended records in a listing: refused with each answer of theirs, among lines.
+pub(super) fn vector_listings(rows: &mut Rows) {
+    rows.section("Listings: extended records among others, and `; refused 7`");
+    let add = op("vaddpd", &[r(ZMM0), r(ZMM0 + 1), masked(1, at(EAX))]).size(8).flags(BROADCAST).end(1, 2).body();
+    let scatter = op("vpscatterdd", &[both(EAX, ZMM0 + 1, 4), m(K0 + 1), r(ZMM0 + 2)]).body();
+    let seven = op("vaddpd", &[r(ZMM0), at(EAX)]).size(2).flags(BROADCAST).body();
+    let no_shape = op("vpscatterqq", &[]).body();
+    let short = scatter[..scatter.len() - 2].to_vec();
+    let push = op("push", &[I8]).imm(-1).body();
+    rows.listing(&[1], &[&add, &push, &scatter], &[]);
+    rows.listing(&[1], &[&seven], &[]);
+    rows.listing(&[1], &[&short, &seven, &push, &no_shape, &add], &[0, 38, 0]);
+}
+
 /// "listing over 16,777,216 bytes", of listings whose every byte is 2, so that they have one line.
 pub(super) fn limits(rows: &mut Rows) {
     rows.section("Listings at the limit, and a byte longer");
@@ -59,7 +73,7 @@ impl Rows {
         let lines = [0, 1].map(|mode| {
             let mut out = Sink::default();
             listing_into(&listing, mode, &mut out).expect("000 prints what document 01 accepts");
-            let mut room = [0; 256];
+            let mut room = [0; 400];
             let came = print_listing(&listing, mode, &mut room);
             assert_eq!((came >> 32, &room[..came as u32 as usize]), (0, &out.0[..]));
             // each line ends in a newline, and no line has ` / `

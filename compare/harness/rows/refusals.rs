@@ -1,4 +1,4 @@
-//! Answers 1 to 5, each with its smallest body, and two faults at a time.
+//! Answers 1 to 5 and 7, each with its smallest body, and two faults at a time.
 
 use super::*;
 
@@ -21,7 +21,7 @@ pub(super) fn lengths(rows: &mut Rows) {
 
 /// Answer 3.
 pub(super) fn fields(rows: &mut Rows) {
-    rows.section("Answer 3: the smallest body is 14 zeros, whose length is 0; lengths 0 and 16; flags of bits 6 and 7; opcodes from 154 up");
+    rows.section("Answer 3: the smallest body is 14 zeros, whose length is 0; lengths 0 and 16; flags of bits 6 and 7; opcodes from 176 up");
     rows.body(&[0; 14]);
     for record in [
         op("nop", &[]).long(0),
@@ -29,7 +29,7 @@ pub(super) fn fields(rows: &mut Rows) {
         op("nop", &[]).long(255),
         op("nop", &[]).flags(64),
         op("nop", &[]).flags(128),
-        Record { opcode: 154, ..op("nop", &[]) },
+        Record { opcode: 176, ..op("nop", &[]) },
         Record { opcode: 256, ..op("nop", &[]) },
         Record { opcode: 65535, ..op("nop", &[]) },
     ] {
@@ -40,7 +40,7 @@ pub(super) fn fields(rows: &mut Rows) {
     five[13] = 5;
     rows.body(&[&five[..], &[3, 0, 0, 0, 0]].concat());
     rows.section("Answer 3: kinds and registers that do not exist");
-    for slot in [bytes(0, 0, 0, 0, 0), bytes(17, 0, 0, 0, 0), r(30), m(31), r(64), m(255)] {
+    for slot in [bytes(0, 0, 0, 0, 0), bytes(23, 0, 0, 0, 0), r(30), m(31), r(64), m(255)] {
         rows.record(op("nop", &[slot]));
     }
     rows.section("Answer 3: of each kind and each byte of an operand the least number that it may not hold; a byte that it does not use is 0");
@@ -216,4 +216,191 @@ pub(super) fn modes(rows: &mut Rows) {
         let answer = said(body, 2);
         rows.row("2 4294967295", body, answer);
     }
+}
+
+/// Answer 2 of extended records: "reckons by the stored kinds and opcode".
+pub(super) fn vector_lengths(rows: &mut Rows) {
+    rows.section("Answer 2: a vector opcode without the two bytes after its operands, with one of them, with three");
+    let vector = op("vaddpd", &[]).body();
+    for length in [14, 15] {
+        rows.body(&vector[..length]);
+    }
+    rows.body(&[&vector[..], &[0]].concat());
+    rows.body(&op("vpscatterdd", &[]).body()[..14]);
+    rows.body(&op("vpscatterdd", &[at(EAX), r(K0), r(EAX)]).body()[..29]);
+    rows.section("Answer 2: the two bytes after a record that is not extended: of the first opcode, of the last before the vector ones, of numbers that are none");
+    for opcode in [0, 153, 176, 256 + 154] {
+        rows.body(&[&Record { opcode, ..op("nop", &[]) }.body()[..], &[0, 0]].concat());
+    }
+    rows.section("Answer 2: a masked operand has six bytes, be it shown or not, and the two bytes follow the operands");
+    let nop = op("nop", &[masked(1, at(EAX))]).body();
+    for length in [18, 19, 20, 21] {
+        rows.body(&nop[..length]);
+    }
+    rows.body(&[&nop[..], &[0]].concat());
+    let hidden = op("nop", &[I8, I8, I8, masked(1, at(EAX))]).body();
+    rows.body(&hidden[..hidden.len() - 2]);
+    rows.body(&hidden[..hidden.len() - 3]);
+    rows.section("Answer 2: also where the count is above 4, and the fifth operand is masked");
+    let mut five = op("nop", &[I8; 4]).body();
+    five[13] = 5;
+    five.extend([17, 0, 0, 0, 0]);
+    rows.body(&five);
+    five.extend([73, 0]);
+    rows.body(&five);
+    rows.section("Answer 2: kinds 0 and 23 have five bytes");
+    for kind in [0, 23] {
+        rows.body(&[&op("nop", &[bytes(kind, 0, 0, 0, 0)]).body()[..], &[0]].concat());
+    }
+}
+
+/// Answer 3 of extended records.
+pub(super) fn vector_fields(rows: &mut Rows) {
+    rows.section("Answer 3: length bits above 3, tails above 2, flag bit 7");
+    for record in [
+        op("vaddpd", &[]).end(4, 0),
+        op("vaddpd", &[]).end(255, 0),
+        op("vaddpd", &[]).end(0, 3),
+        op("vaddpd", &[]).end(0, 255),
+        op("vaddpd", &[]).flags(128),
+        op("vaddpd", &[]).flags(192),
+        op("inc", &[masked(1, at(EAX))]).size(4).end(4, 0),
+        op("inc", &[masked(1, at(EAX))]).size(4).end(0, 3),
+    ] {
+        rows.record(record);
+    }
+    rows.section("Answer 3: an opcode past the last with a masked operand; a count above 4 with one");
+    rows.record(Record { opcode: 176, ..op("nop", &[masked(1, at(EAX))]) });
+    let mut five = op("nop", &[I8; 4]).body();
+    five[13] = 5;
+    rows.body(&[&five[..], &[17, 0, 0, 0, 0, 73, 0, 0]].concat());
+    rows.section("Answer 3: a mask that is k0, or no mask");
+    for kind in 17..=22 {
+        let good = masked(1, if kind < 19 { bytes(kind - 6, 0, 0, 0, 0) } else { bytes(kind - 6, 0, 0, 0, 1) });
+        rows.record(op("inc", &[Slot { mask: K0, ..good }]).size(4));
+        rows.record(op("inc", &[Slot { mask: K0 + 8, ..good }]).size(4));
+    }
+    for mask in [0, 1, 71, 255] {
+        rows.record(op("inc", &[Slot { mask, ..masked(1, at(EAX)) }]).size(4));
+    }
+    rows.section("Answer 3: of each masked kind and each byte the least number that it may not hold");
+    for kind in 17..=22 {
+        let good = masked(1, if kind < 19 { bytes(kind - 6, 0, 0, 0, 0) } else { bytes(kind - 6, 0, 0, 0, 1) });
+        rows.record(op("inc", &[Slot { segment: 7, ..good }]).size(4));
+        rows.record(op("inc", &[Slot { first: 16, ..good }]).size(4));
+        rows.record(op("inc", &[Slot { second: if kind < 21 { 1 } else { 16 }, ..good }]).size(4));
+        rows.record(op("inc", &[Slot { scale: if kind < 19 { 1 } else { 0 }, ..good }]).size(4));
+    }
+    rows.section("Answer 3: registers past bank 9, and of banks 8 and 9 in records that are not extended");
+    for register in [80, 255, 30] {
+        rows.record(op("vaddpd", &[r(register)]));
+    }
+    for register in [ZMM0, ZMM0 + 7, K0, K0 + 7] {
+        rows.record(op("mov", &[r(register)]));
+        rows.record(op("mov", &[r(EAX), m(register)]));
+    }
+    rows.section("Answer 3: a vector register as index, but for operand 0 of the VPSCATTERs, and there in a masked kind; never as base");
+    let (k1, zmm) = (r(K0 + 1), r(ZMM0));
+    for slot in [index(XMM0, 1), index_near(ZMM0, 2), both(EAX, YMM0, 4), both_near(EAX, ZMM0 + 7, 8)] {
+        rows.record(op("vaddpd", &[slot]).size(8));
+        rows.record(op("mov", &[slot, masked(1, at(EAX))]).size(8));
+        rows.record(op("vpscatterdd", &[masked(1, slot), k1, zmm]));
+        rows.record(op("vpscatterqq", &[at(EAX), k1, slot]));
+    }
+    for slot in [at(XMM0), near(ZMM0), both(XMM0, EAX, 1), both_near(ZMM0, EAX, 1), index(XMM0 - 1, 1), both(EAX, K0, 1)] {
+        rows.record(op("vpscatterdd", &[slot, k1, zmm]));
+    }
+    rows.section("Answer 3: flag bit 6 in a record that is not extended, whatever it shows");
+    rows.record(op("mov", &[r(EAX), at(ECX)]).size(4).flags(BROADCAST));
+    rows.record(op("rdpru", &[]).flags(BROADCAST));
+}
+
+/// Answer 4 of the VPSCATTER arms.
+pub(super) fn vector_shapes(rows: &mut Rows) {
+    let (k1, zmm) = (m(K0 + 1), r(ZMM0));
+    rows.section("Answer 4: a VPSCATTER of fewer than three operands");
+    for slots in [&[][..], &[at(EAX)], &[at(EAX), k1]] {
+        for name in ["vpscatterdd", "vpscatterqq"] {
+            rows.record(op(name, slots));
+        }
+    }
+    rows.section("Answer 4: a VPSCATTER whose operand 0 is no memory, or has a mask of its own");
+    for slot in [zmm, U8, masked(1, at(EAX)), masked(2, both_near(EAX, ECX, 4))] {
+        for name in ["vpscatterdd", "vpscatterqd", "vpscatterdq", "vpscatterqq"] {
+            rows.record(op(name, &[slot, k1, zmm]));
+        }
+    }
+    rows.section("Answer 4: a VPSCATTER whose operand 1 is no register of bank 9");
+    for slot in [zmm, r(YMM0 + 7), m(EAX), at(EAX), masked(1, at(EAX)), U8] {
+        rows.record(op("vpscatterdd", &[at(EAX), slot, zmm]));
+        rows.record(op("vpscatterdq", &[at(EAX), slot, zmm]));
+    }
+    rows.section("Answer 4: banks 8 and 9 are not bank 0");
+    for register in [ZMM0, K0] {
+        rows.record(op("incssp", &[r(register), masked(1, at(EAX))]).size(4));
+        rows.record(op("wrss", &[masked(1, at(EAX)), r(register)]).size(4));
+    }
+}
+
+/// Answer 5 of masked operands and of the vector opcodes.
+pub(super) fn vector_sizes(rows: &mut Rows) {
+    rows.section("Answer 5: a masked operand calls for its label, and so do the vector opcodes");
+    for record in [
+        op("mov", &[r(EAX), masked(1, at(ECX))]).size(3),
+        op("lods", &[r(AL), masked(1, at(ESI))]).size(6),
+        op("scas", &[masked(1, at(EDI))]).size(63),
+        op("lss", &[r(EAX), masked(1, at(ECX))]).size(8),
+        op("fld", &[r(ST0), masked(1, at(EAX))]).size(6),
+        op("vaddpd", &[r(ZMM0), at(ECX)]).size(3),
+        op("vcvtpd2ps", &[r(XMM0), at(ECX)]),
+        op("vfpclassps", &[r(K0), at(ECX)]).size(6),
+        op("vcvtps2qq", &[at(ECX)]).size(10),
+    ] {
+        rows.record(record);
+    }
+}
+
+/// Answer 7.
+pub(super) fn counts(rows: &mut Rows) {
+    rows.section("Answer 7: a printed count above 16");
+    for record in [
+        op("vaddpd", &[r(ZMM0), at(ECX)]).size(1),
+        op("vaddpd", &[r(ZMM0), at(ECX)]).size(2),
+        op("vaddpd", &[r(YMM0), at(ECX)]).size(1),
+        op("vaddpd", &[m(YMM0 + 7), masked(7, near(ECX))]).size(1),
+        op("vaddpd", &[r(EAX), r(ZMM0), word()]).size(2),
+        op("vaddpd", &[r(EAX), at(EAX), r(ZMM0), at(ECX)]).size(2),
+        op("mov", &[r(ZMM0), masked(1, at(ECX))]).size(2),
+        op("lsl", &[r(ZMM0), masked(1, at(ECX))]).size(2),
+        op("incssp", &[r(EAX), r(ZMM0), masked(1, at(ECX))]).size(1),
+        op("wruss", &[r(EAX), r(EAX), r(ZMM0), masked(1, at(ECX))]).size(1),
+        op("movs", &[r(ZMM0), masked(1, at(ECX))]).size(2),
+        op("jmp", &[r(ZMM0), masked(1, at(ECX))]).size(2),
+        op("aam", &[r(ZMM0), masked(1, at(ECX))]).size(2),
+    ] {
+        rows.record(Record { flags: BROADCAST, ..record });
+    }
+}
+
+/// "after 5 and before room", and the other answers before it.
+pub(super) fn vector_order(rows: &mut Rows) {
+    rows.section("Two faults: 2 before 3, 3 before 4, 3 before 5, 4 before 7, 5 before 7");
+    let wrong = op("vaddpd", &[r(80)]).flags(128).end(4, 3).body();
+    rows.body(&wrong[..wrong.len() - 1]);
+    for record in [
+        op("vpscatterdd", &[at(EAX)]).end(4, 0),
+        op("vpscatterdd", &[Slot { mask: K0, ..masked(1, at(EAX)) }]),
+        op("vaddpd", &[r(ZMM0), at(ECX)]).end(0, 3).flags(BROADCAST),
+        op("wrss", &[masked(1, at(EAX)), r(ZMM0), at(ECX)]).size(1).flags(BROADCAST),
+        op("lsl", &[at(EAX), r(ZMM0), masked(1, at(ECX))]).size(1).flags(BROADCAST),
+        op("vaddpd", &[r(ZMM0), at(ECX)]).size(3).flags(BROADCAST),
+        op("vaddpd", &[r(ZMM0), at(ECX)]).flags(BROADCAST),
+        op("lss", &[r(ZMM0), masked(1, at(ECX))]).size(1).flags(BROADCAST),
+    ] {
+        rows.record(record);
+    }
+    rows.section("Answer 1 before answer 7");
+    let counted = op("vaddpd", &[r(ZMM0), at(ECX)]).size(1).flags(BROADCAST).body();
+    let answer = said(&counted, 2);
+    rows.row("2 4294967295", &counted, answer);
 }

@@ -1,18 +1,21 @@
 //! A record as the instruction that 000 is handed.
 
 use super::evex::Evex;
-use super::operands::{Operand, OperandSpec, OperandVisitor, SPECS};
+use super::operands::{Operand, OperandSpec, OperandVisitor};
 use super::{arch, RegSpec};
 use crate::opcodes::Opcode;
 use crate::record::{Record, Slot};
 
-/// The flags byte, bit 0 the lowest.
+/// The flags byte, bit 0 the lowest, and what an extended record has beside it.
 #[derive(Clone, Copy)]
-pub(crate) struct Prefixes(u8);
+pub(crate) struct Prefixes {
+    flags: u8,
+    evex: Option<Evex>,
+}
 
 impl Prefixes {
     fn bit(&self, bit: u8) -> bool {
-        self.0 >> bit & 1 == 1
+        self.flags >> bit & 1 == 1
     }
     pub(crate) fn lock(&self) -> bool {
         self.bit(2)
@@ -30,10 +33,10 @@ impl Prefixes {
         self.bit(5)
     }
     pub(crate) fn evex(&self) -> Option<Evex> {
-        None
+        self.evex
     }
     pub(crate) fn evex_unchecked(&self) -> Evex {
-        panic!("000 asks for an EVEX prefix")
+        self.evex.expect("000 asks for an EVEX prefix that is not there")
     }
 }
 
@@ -46,11 +49,11 @@ impl Segment {
     }
 }
 
-/// The registers that the crate's operands share: 0 the R place, 1 the M place. 000 reads them in
-/// two arms, to tell st(0) from the others, and there it means a certain operand: in the FADD arm
-/// the operand that it has just found to be in the R place, in the FBLD arm operand 1 in the M
-/// place. Each place holds that operand's own register. Reading a place that no operand owns panics.
-pub(crate) struct SharedRegisters([Option<RegSpec>; 2]);
+/// The registers that the crate's operands share: 0 the R place, 1 the M place, 3 the mask. 000 reads them in
+/// three arms, and there it means a certain operand: to tell st(0) from the others, in the FADD arm the operand that
+/// it has just found to be in the R place, in the FBLD arm operand 1 in the M place; and in the VPSCATTER arms the
+/// mask, which is operand 1. Each place holds that operand's own register. Reading a place that no operand owns panics.
+pub(crate) struct SharedRegisters([Option<RegSpec>; 4]);
 
 impl SharedRegisters {
     fn of(slots: &[Slot; 4]) -> SharedRegisters {
@@ -58,6 +61,8 @@ impl SharedRegisters {
         SharedRegisters([
             slots[..2].iter().find(|slot| slot.kind == 1).map(own),
             Some(&slots[1]).filter(|slot| slot.kind == 2).map(own),
+            None,
+            Some(&slots[1]).filter(|slot| slot.is_register()).map(own),
         ])
     }
 }
@@ -92,8 +97,8 @@ impl Instruction {
     pub(crate) fn of(record: &Record) -> Instruction {
         Instruction {
             opcode: Opcode::numbered(record.opcode),
-            prefixes: Prefixes(record.flags),
-            operands: record.slots.map(|slot| SPECS[slot.kind as usize]),
+            prefixes: Prefixes { flags: record.flags, evex: Evex::of(record) },
+            operands: [0, 1, 2, 3].map(|place| OperandSpec::of(record, place)),
             operand_count: record.count,
             regs: SharedRegisters::of(&record.slots),
             mem_size: record.mem_size,
@@ -114,10 +119,13 @@ impl Instruction {
 
     pub(crate) fn operand(&self, place: u8) -> Operand {
         let slot = &self.slots[place as usize];
-        if slot.is_register() {
-            Operand::Register { reg: RegSpec::of(slot.first) }
-        } else {
-            Operand::Other
+        match slot.kind {
+            1 | 2 => Operand::Register { reg: RegSpec::of(slot.first) },
+            3 | 6 => Operand::Immediate { width: 1 },
+            4 | 7 => Operand::Immediate { width: 2 },
+            5 | 8 => Operand::Immediate { width: 4 },
+            9..=22 => Operand::Memory,
+            _ => Operand::Nothing,
         }
     }
 
@@ -134,30 +142,31 @@ impl Instruction {
         place: u8,
         visitor: &mut V,
     ) -> Result<V::Ok, V::Error> {
-        let slot = &self.slots[place as usize];
-        let (first, second) = (|| RegSpec::of(slot.first), || RegSpec::of(slot.second));
-        match self.operands[place as usize] {
-            OperandSpec::RegRRR | OperandSpec::RegMMM => visitor.visit_reg(first()),
-            OperandSpec::ImmI8 => visitor.visit_i8(self.imm as i8),
-            OperandSpec::ImmI16 => visitor.visit_i16(self.imm as i16),
-            OperandSpec::ImmI32 => visitor.visit_i32(self.imm as i32),
-            OperandSpec::ImmU8 => visitor.visit_u8(self.imm as u8),
-            OperandSpec::ImmU16 => visitor.visit_u16(self.imm as u16),
-            OperandSpec::ImmU32 => visitor.visit_u32(self.imm),
-            OperandSpec::AbsoluteU16 => visitor.visit_abs_u16(self.disp as u16),
-            OperandSpec::AbsoluteU32 => visitor.visit_abs_u32(self.disp as u32),
-            OperandSpec::Deref => visitor.visit_deref(first()),
-            OperandSpec::Disp => visitor.visit_disp(first(), self.disp),
-            OperandSpec::IndexScale => visitor.visit_index_scale(first(), slot.scale),
-            OperandSpec::IndexScaleDisp => {
-                visitor.visit_index_scale_disp(first(), slot.scale, self.disp)
-            }
-            OperandSpec::BaseIndexScale => {
-                visitor.visit_base_index_scale(first(), second(), slot.scale)
-            }
-            OperandSpec::BaseIndexScaleDisp => {
-                visitor.visit_base_index_scale_disp(first(), second(), slot.scale, self.disp)
-            }
+        let Slot { kind, scale, first, second, mask, .. } = self.slots[place as usize];
+        let (first, second) = (|| RegSpec::of(first), || RegSpec::of(second));
+        let mask = || RegSpec::of(mask);
+        match kind {
+            1 | 2 => visitor.visit_reg(first()),
+            3 => visitor.visit_i8(self.imm as i8),
+            4 => visitor.visit_i16(self.imm as i16),
+            5 => visitor.visit_i32(self.imm as i32),
+            6 => visitor.visit_u8(self.imm as u8),
+            7 => visitor.visit_u16(self.imm as u16),
+            8 => visitor.visit_u32(self.imm),
+            9 => visitor.visit_abs_u16(self.disp as u16),
+            10 => visitor.visit_abs_u32(self.disp as u32),
+            11 => visitor.visit_deref(first()),
+            12 => visitor.visit_disp(first(), self.disp),
+            13 => visitor.visit_index_scale(first(), scale),
+            14 => visitor.visit_index_scale_disp(first(), scale, self.disp),
+            15 => visitor.visit_base_index_scale(first(), second(), scale),
+            16 => visitor.visit_base_index_scale_disp(first(), second(), scale, self.disp),
+            17 => visitor.visit_deref_masked(first(), mask()),
+            18 => visitor.visit_disp_masked(first(), self.disp, mask()),
+            19 => visitor.visit_index_scale_masked(first(), scale, mask()),
+            20 => visitor.visit_index_scale_disp_masked(first(), scale, self.disp, mask()),
+            21 => visitor.visit_base_index_scale_masked(first(), second(), scale, mask()),
+            22 => visitor.visit_base_index_scale_disp_masked(first(), second(), scale, self.disp, mask()),
             _ => panic!("000 visits operand {place}, which is not there"),
         }
     }

@@ -1,77 +1,78 @@
 //! Operands as 000 sees them, and the visitor by which it prints them.
 
 use super::{Instruction, MergeMode, RegSpec, SaeMode};
+use crate::record::Record;
 
-/// How an operand is encoded: document 01's kinds, and the EVEX forms that 000 asks about.
-#[allow(non_camel_case_types, dead_code)]
-#[derive(Clone, Copy, Debug, PartialEq, Eq)]
-pub(crate) enum OperandSpec {
-    Nothing,
-    RegRRR,
-    RegMMM,
-    ImmI8,
-    ImmI16,
-    ImmI32,
-    ImmU8,
-    ImmU16,
-    ImmU32,
-    AbsoluteU16,
-    AbsoluteU32,
-    Deref,
-    Disp,
-    IndexScale,
-    IndexScaleDisp,
-    BaseIndexScale,
-    BaseIndexScaleDisp,
-    RegRRR_maskmerge_sae,
-    RegRRR_maskmerge_sae_noround,
-    RegMMM_maskmerge_sae_noround,
+/// How an operand is encoded, as 000 asks about it. Each operand knows its place, since it has registers of its own.
+/// In the crate an operand 0 that is encoded with a tail is of one of three further kinds; a record's tail stands
+/// beside the kind, so that here operand 0 is of its own kind and of the tail's.
+#[derive(Clone, Copy, Debug)]
+pub(crate) struct OperandSpec {
+    place: u8,
+    /// document 01's; 0 where there is no such operand
+    kind: u8,
+    /// the record's, in operand 0; else 0
+    tail: u8,
 }
 
-/// By kind; 0 is an operand that is not there.
-pub(super) const SPECS: [OperandSpec; 17] = [
-    OperandSpec::Nothing,
-    OperandSpec::RegRRR,
-    OperandSpec::RegMMM,
-    OperandSpec::ImmI8,
-    OperandSpec::ImmI16,
-    OperandSpec::ImmI32,
-    OperandSpec::ImmU8,
-    OperandSpec::ImmU16,
-    OperandSpec::ImmU32,
-    OperandSpec::AbsoluteU16,
-    OperandSpec::AbsoluteU32,
-    OperandSpec::Deref,
-    OperandSpec::Disp,
-    OperandSpec::IndexScale,
-    OperandSpec::IndexScaleDisp,
-    OperandSpec::BaseIndexScale,
-    OperandSpec::BaseIndexScaleDisp,
-];
+/// What 000 compares an operand's encoding with.
+#[derive(Clone, Copy)]
+pub(crate) enum Encoding {
+    Kind(u8),
+    Tail(u8),
+}
 
+#[allow(non_upper_case_globals)]
 impl OperandSpec {
-    pub(crate) fn is_memory(&self) -> bool {
-        use OperandSpec::*;
-        matches!(
-            self,
-            AbsoluteU16 | AbsoluteU32 | Deref | Disp | IndexScale | IndexScaleDisp | BaseIndexScale
-                | BaseIndexScaleDisp
-        )
+    pub(crate) const RegRRR: Encoding = Encoding::Kind(1);
+    pub(crate) const ImmI8: Encoding = Encoding::Kind(3);
+    pub(crate) const ImmI32: Encoding = Encoding::Kind(5);
+    pub(crate) const RegRRR_maskmerge_sae: Encoding = Encoding::Tail(2);
+    pub(crate) const RegRRR_maskmerge_sae_noround: Encoding = Encoding::Tail(1);
+    pub(crate) const RegMMM_maskmerge_sae_noround: Encoding = Encoding::Tail(1);
+}
+
+impl PartialEq<Encoding> for OperandSpec {
+    fn eq(&self, other: &Encoding) -> bool {
+        match *other {
+            Encoding::Kind(kind) => self.kind == kind,
+            Encoding::Tail(tail) => self.tail == tail,
+        }
     }
 }
 
-/// 000 looks inside an operand only for a register.
+impl OperandSpec {
+    pub(super) fn of(record: &Record, place: u8) -> OperandSpec {
+        let tail = if place == 0 { record.tail } else { 0 };
+        OperandSpec { place, kind: record.slots[place as usize].kind, tail }
+    }
+
+    pub(crate) fn is_memory(&self) -> bool {
+        matches!(self.kind, 9..=22)
+    }
+}
+
+/// 000 looks inside an operand for a register, and for how wide it is.
 pub(crate) enum Operand {
     Register { reg: RegSpec },
-    Other,
+    Immediate { width: u8 },
+    Memory,
+    Nothing,
 }
 
 impl Operand {
-    pub(crate) fn from_spec(_: &Instruction, _: OperandSpec) -> Operand {
-        panic!("000 asks for an EVEX operand")
+    pub(crate) fn from_spec(instruction: &Instruction, spec: OperandSpec) -> Operand {
+        instruction.operand(spec.place)
     }
+
+    /// In bytes. Memory has none.
     pub(crate) fn width(&self) -> Option<u8> {
-        panic!("000 asks for an EVEX width")
+        match self {
+            Operand::Register { reg } => Some(reg.width()),
+            Operand::Immediate { width } => Some(*width),
+            Operand::Memory => None,
+            Operand::Nothing => panic!("000 asks for the width of an operand that is not there"),
+        }
     }
 }
 
@@ -103,7 +104,25 @@ pub(crate) trait OperandVisitor {
     ) -> Result<Self::Ok, Self::Error>;
     fn visit_other(&mut self) -> Result<Self::Ok, Self::Error>;
 
-    // far addresses and EVEX: 000 has them, no record does
+    fn visit_deref_masked(&mut self, base: RegSpec, mask: RegSpec)
+        -> Result<Self::Ok, Self::Error>;
+    fn visit_disp_masked(
+        &mut self, base: RegSpec, disp: i32, mask: RegSpec,
+    ) -> Result<Self::Ok, Self::Error>;
+    fn visit_index_scale_masked(
+        &mut self, index: RegSpec, scale: u8, mask: RegSpec,
+    ) -> Result<Self::Ok, Self::Error>;
+    fn visit_index_scale_disp_masked(
+        &mut self, index: RegSpec, scale: u8, disp: i32, mask: RegSpec,
+    ) -> Result<Self::Ok, Self::Error>;
+    fn visit_base_index_scale_masked(
+        &mut self, base: RegSpec, index: RegSpec, scale: u8, mask: RegSpec,
+    ) -> Result<Self::Ok, Self::Error>;
+    fn visit_base_index_scale_disp_masked(
+        &mut self, base: RegSpec, index: RegSpec, scale: u8, disp: i32, mask: RegSpec,
+    ) -> Result<Self::Ok, Self::Error>;
+
+    // far addresses, masked registers, and brackets without a scale: 000 has them, no record does
     fn visit_absolute_far_address(
         &mut self, segment: u16, address: u32,
     ) -> Result<Self::Ok, Self::Error>;
@@ -116,27 +135,10 @@ pub(crate) trait OperandVisitor {
     fn visit_reg_mask_merge_sae_noround(
         &mut self, reg: RegSpec, mask: RegSpec, merge: MergeMode,
     ) -> Result<Self::Ok, Self::Error>;
-    fn visit_deref_masked(&mut self, base: RegSpec, mask: RegSpec)
-        -> Result<Self::Ok, Self::Error>;
-    fn visit_disp_masked(
-        &mut self, base: RegSpec, disp: i32, mask: RegSpec,
-    ) -> Result<Self::Ok, Self::Error>;
-    fn visit_index_scale_masked(
-        &mut self, index: RegSpec, scale: u8, mask: RegSpec,
-    ) -> Result<Self::Ok, Self::Error>;
-    fn visit_index_scale_disp_masked(
-        &mut self, index: RegSpec, scale: u8, disp: i32, mask: RegSpec,
-    ) -> Result<Self::Ok, Self::Error>;
     fn visit_base_index_masked(
         &mut self, base: RegSpec, index: RegSpec, mask: RegSpec,
     ) -> Result<Self::Ok, Self::Error>;
     fn visit_base_index_disp_masked(
         &mut self, base: RegSpec, index: RegSpec, disp: i32, mask: RegSpec,
-    ) -> Result<Self::Ok, Self::Error>;
-    fn visit_base_index_scale_masked(
-        &mut self, base: RegSpec, index: RegSpec, scale: u8, mask: RegSpec,
-    ) -> Result<Self::Ok, Self::Error>;
-    fn visit_base_index_scale_disp_masked(
-        &mut self, base: RegSpec, index: RegSpec, scale: u8, disp: i32, mask: RegSpec,
     ) -> Result<Self::Ok, Self::Error>;
 }

@@ -21,9 +21,13 @@ pub(crate) enum RegisterBank {
     X,
     /// ymm
     Y,
+    /// zmm
+    Z,
+    /// masks
+    K,
 }
 
-const BANKS: [RegisterBank; 8] = [
+const BANKS: [RegisterBank; 10] = [
     RegisterBank::D,
     RegisterBank::W,
     RegisterBank::B,
@@ -32,10 +36,15 @@ const BANKS: [RegisterBank; 8] = [
     RegisterBank::MM,
     RegisterBank::X,
     RegisterBank::Y,
+    RegisterBank::Z,
+    RegisterBank::K,
 ];
 
+/// Of one register of each bank, in bytes.
+const WIDTHS: [u8; 10] = [4, 2, 1, 2, 10, 8, 16, 32, 64, 8];
+
 /// Document 01's register names, bank by bank; the two empty ones are no registers.
-const REGISTERS: [&str; 64] = [
+const REGISTERS: [&str; 80] = [
     "eax", "ecx", "edx", "ebx", "esp", "ebp", "esi", "edi", //
     "ax", "cx", "dx", "bx", "sp", "bp", "si", "di", //
     "al", "cl", "dl", "bl", "ah", "ch", "dh", "bh", //
@@ -43,7 +52,9 @@ const REGISTERS: [&str; 64] = [
     "st(0)", "st(1)", "st(2)", "st(3)", "st(4)", "st(5)", "st(6)", "st(7)", //
     "mm0", "mm1", "mm2", "mm3", "mm4", "mm5", "mm6", "mm7", //
     "xmm0", "xmm1", "xmm2", "xmm3", "xmm4", "xmm5", "xmm6", "xmm7", //
-    "ymm0", "ymm1", "ymm2", "ymm3", "ymm4", "ymm5", "ymm6", "ymm7",
+    "ymm0", "ymm1", "ymm2", "ymm3", "ymm4", "ymm5", "ymm6", "ymm7", //
+    "zmm0", "zmm1", "zmm2", "zmm3", "zmm4", "zmm5", "zmm6", "zmm7", //
+    "k0", "k1", "k2", "k3", "k4", "k5", "k6", "k7",
 ];
 
 #[derive(Clone, Copy, Debug, PartialEq, Eq)]
@@ -55,6 +66,9 @@ pub(crate) struct RegSpec {
 impl RegSpec {
     pub(super) fn of(byte: u8) -> RegSpec {
         RegSpec { num: byte % 8, bank: BANKS[byte as usize / 8] }
+    }
+    pub(super) fn width(&self) -> u8 {
+        WIDTHS[self.bank as usize]
     }
     pub(crate) fn eax() -> RegSpec {
         RegSpec { num: 0, bank: RegisterBank::D }
@@ -98,8 +112,14 @@ pub(crate) trait DisplaySinkExt: DisplaySink {
             _ => panic!("000 calls for a label of size {size}, and there is none"),
         })
     }
-    fn write_sae_mode(&mut self, _: SaeMode) -> fmt::Result {
-        panic!("000 asks for an EVEX rounding word")
+    /// The Intel manual's words. The published crate writes `{rne-sae}` for the first.
+    fn write_sae_mode(&mut self, mode: SaeMode) -> fmt::Result {
+        self.write_str(match mode {
+            SaeMode::Nearest => "{rn-sae}",
+            SaeMode::Down => "{rd-sae}",
+            SaeMode::Up => "{ru-sae}",
+            SaeMode::Zero => "{rz-sae}",
+        })
     }
 }
 
