@@ -3,7 +3,7 @@
 -- Assumes nothing.
 use mathlib.Core.Path.{_≡_, refl, sym, ap, _∙_}
 use mathlib.Core.Bool.{Bool, true, false, cond, not, _&&_, _||_, or-false, and-false, and-comm}
-use mathlib.Core.List.{[], _∷_}
+use mathlib.Core.List.{List, [], _∷_}
 use Prim.Native.Nat.{ℕ}
 use lib.Dec.{eqb, ltb}
 use Rattle.operands.specs.Kinds.{isAbsent, isRegister, isRegisterR, isMemory}
@@ -27,8 +27,10 @@ use Rattle.arms.specs.Plans.{plain, labelled, st, named, none, one, two,
 use Rattle.arms.specs.Size.{generalPath}
 use Rattle.arms.specs.Decorations.{isBroadcast, broadcastCount, broadcastAfter, printsOver16, tailOf, broadcastRefused}
 use Rattle.arms.specs.Missing.{isOver16, planOver16}
-use borrow.Author.Tests.{eqb-true, not-false}
-use Rattle.bodies.proofs.Picks.{neither-left, neither-right}
+use Rattle.bodies.specs.Body.{sizeOf, isExtended}
+use Rattle.bodies.specs.Refusals.{fieldRefused}
+use Rattle.bodies.specs.Decoding.{instructionOf}
+use Rattle.bodies.proofs.OldKept.{old-kept, old-flags}
 use Rattle.arms.proofs.GeneralPath.{general-plan}
 
 -- ---- Places have no broadcast of their own
@@ -170,15 +172,17 @@ module _ (arm : Arm) (i : Instruction) where
   unfolding planOf
   plan-of-general e = rw e (ap (decorated arm i) (sym (general-plan i arm e)))
 
-  pub plan-of-bare :
-      generalPath arm i ≡ true →
-      (isBroadcast i || not (eqb (i .tail) 0)) ≡ false →
-      generalBy arm (mmwordFor arm i) (i .size) ≡ planOf arm i
+  pub plan-of-bare : generalPath arm i ≡ true → isBroadcast i ≡ false → i .tail ≡ 0 → generalBy arm (mmwordFor arm i) (i .size) ≡ planOf arm i
   unfolding generalBy
-  plan-of-bare e f =
-      sym (not-decorated _ _ _ (neither-left (isBroadcast i) (not (eqb (i .tail) 0)) f) (eqb-true (i .tail) 0 (not-false (eqb (i .tail) 0) (neither-right (isBroadcast i) (not (eqb (i .tail) 0)) f))))
-      ∙ plan-of-general e
+  plan-of-bare e once untailed = sym (not-decorated _ _ _ once untailed) ∙ plan-of-general e
 
   pub plan-of-own : generalPath arm i ≡ false → placesOf arm i ≡ planOf arm i
   unfolding planOf
   plan-of-own e = rw e
+
+-- a record that is not extended has neither flag bit 6 nor a tail
+pub plan-of-old :
+    (arm : Arm) (body : List ℕ) → isExtended body ≡ false → fieldRefused body ≡ false → generalPath arm (instructionOf body) ≡ true →
+    generalBy arm (mmwordFor arm (instructionOf body)) (sizeOf body) ≡ planOf arm (instructionOf body)
+unfolding instructionOf
+plan-of-old arm body old kept e = plan-of-bare arm (instructionOf body) e (old-flags body old kept) (old-kept body old .tail)

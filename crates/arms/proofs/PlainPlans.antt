@@ -129,7 +129,7 @@ module _ (mode : Mode) (arm : Arm) (i : Instruction) (masks : (k : ℕ) → mask
     plan-is-places = go (generalPath arm i) refl
       where
         go : (g : Bool) → generalPath arm i ≡ g → planOf arm i ≡ placesOf arm i
-        go true e = sym (plan-of-bare arm i e (rw (once, untailed))) ∙ sym (general-plan i arm e)
+        go true e = sym (plan-of-bare arm i e once untailed) ∙ sym (general-plan i arm e)
         go false e = sym (plan-of-own arm i e)
 
     plain : T (planPlain (planOf arm i))

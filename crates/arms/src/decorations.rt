@@ -1,7 +1,5 @@
-// What document 02 adds to the general path: `{1toN}` and the tail. Few records have either, so a plan without them is left as it is.
+// What document 02 adds to the general path of an extended record: `{1toN}` and the tail.
 ghost use mathlib.Core.Path.{_≡_};
-ghost use mathlib.Core.Bool.{_||_, not};
-ghost use lib.Dec.{eqb};
 ghost use Prim.Native.Nat.{_≤_};
 ghost use Rattle.bodies.specs.Body.{countOf};
 ghost use Rattle.bodies.specs.Code.{Whole};
@@ -93,15 +91,6 @@ fn tail_of(body: &[u8]) -> Tail
         2 => rounding_of(fields::bits(body)),
         _ => Tail::None,
     }
-}
-
-// Whether a record of the general path may show a broadcast or a tail.
-pub fn is_decorated(body: &[u8]) -> bool
-    requires { ⌜ Whole (now body) ⌝ }
-    ensures { λ r. ⌜ r ≡ (isBroadcast (instructionOf (now (body .entry))) || not (eqb (instructionOf (now (body .entry)) .tail) 0)) ⌝ }
-{
-    let tail = fields::tail(body);
-    is_broadcast(body) | (tail != 0)
 }
 
 // A place with this broadcast.

@@ -4,13 +4,13 @@ ghost use mathlib.Core.Bool.{false, _&&_};
 ghost use lib.Dec.{eqb};
 ghost use Rattle.bodies.specs.Body.{sizeOf};
 ghost use Rattle.bodies.specs.Code.{Whole};
+ghost use Rattle.bodies.specs.Refusals.{fieldRefused};
 ghost use Rattle.bodies.specs.Decoding.{instructionOf};
 ghost use Rattle.arms.specs.Size.{generalPath};
 ghost use Rattle.arms.specs.Code.{mmwordFor};
 ghost use Rattle.arms.specs.Plans.{plain as plainPlace, st as stPlace, four as fourPlaces, three as threePlaces, two as twoPlaces, one as onePlace, none as noPlace, placesOf, planOf};
 ghost use Rattle.arms.specs.Code.{generalBy};
 use crate::decorations::decorated;
-use crate::decorations::is_decorated;
 use crate::labels::general_label;
 use crate::labels::lss_label;
 use crate::labels::size_label;
@@ -234,14 +234,16 @@ fn own(arm: Arm, body: &[u8], size: u8) -> Plan
     }
 }
 
+// A record that is not extended has no flag bit 6 and no tail, so its plan is that of its places.
 pub fn plan_of(arm: Arm, body: &[u8]) -> Plan
     requires { ⌜ Whole (now body) ⌝ }
+    requires { ⌜ fieldRefused (now body) ≡ false ⌝ }
     ensures { λ r. ⌜ r ≡ planOf arm (instructionOf (now (body .entry))) ⌝ }
 {
     let size = fields::size(body);
     if is_general(arm, body) {
         let plan = general(arm, is_mmword(arm, body, size), size);
-        if is_decorated(body) {
+        if fields::is_extended(body) {
             decorated(arm, body, plan)
         } else {
             plan

@@ -1,15 +1,17 @@
 -- A record that is not extended is judged and read as document 01 has it.
 -- Assumes nothing.
-use mathlib.Core.Bool.{Bool, true, false, not, cond, _&&_, _||_}
+use mathlib.Core.Bool.{Bool, true, false, not, cond, _&&_, _||_, and-true, and-false, or-false}
 use mathlib.Core.List.{List}
 use mathlib.Core.Logic.{_⊎_, inl, inr, ⊎-elim}
-use mathlib.Core.Path.{_≡_, refl, _∙_}
-use Prim.Native.Nat.{ℕ, _+_, _*_, _≤_, _<_}
+use mathlib.Core.Path.{_≡_, refl, sym, _∙_}
+use Prim.Native.Nat.{ℕ, _+_, _*_, _/_, _≤_, _<_}
 use native.Mathlib.Decide.{decLt}
+use native.Mathlib.Nat.{div-add-mod'}
 use native.Mathlib.Omega.{arith}
 use lib.Dec.{eqb, leb, ltb}
 use borrow.Author.Tests.{lt-ltb, le-ltb, le-leb, lt-leb, leb-false, eqb-true}
 use Rattle.operands.specs.declared.Operand.{Operand}
+use Rattle.operands.specs.Flags.{bit}
 use Rattle.operands.specs.Kinds.{isMasked}
 use Rattle.operands.specs.Parts.{maskOf}
 use Rattle.frames.specs.Numbers.{byte}
@@ -17,22 +19,10 @@ use Rattle.bodies.specs.Body.{opcodeOf, flagsOf, countOf, placeOf, kindA
 use Rattle.bodies.specs.Refusals.{lengthRefused, fieldRefused, kindKept, registerKept, segmentKept, firstKept, secondKept, scaleKept, maskKept, operandKept, operandRefused, takesVectors}
 use Rattle.bodies.specs.Decoding.{operandAt, instructionOf}
 use Rattle.bodies.specs.Document01.{oldPlaceOf, isOldRegister, oldFirstKept, oldOperandKept, oldOperandRefused, oldFieldRefused, oldLengthRefused, oldOperandAt, OldKept}
-use Rattle.bodies.proofs.Picks.{either}
+use Rattle.bodies.proofs.Picks.{either, neither-left, neither-right}
 use Rattle.bodies.proofs.OperandPlaces.{place-unmasked, none-masked, not-masked}
 use Rattle.bodies.proofs.Lengths.{plain-opcode, plain-masks, plain-end}
 use Rattle.bodies.proofs.ByKind.{not-below, operand-none, by-kind}
-
-or-false : (t : Bool) → (t || false) ≡ t
-or-false true = refl
-or-false false = refl
-
-and-true : (t : Bool) → (t && true) ≡ t
-and-true true = refl
-and-true false = refl
-
-and-false : (t : Bool) → (t && false) ≡ false
-and-false true = refl
-and-false false = refl
 
 -- no bank above 7
 register-old : (reg : ℕ) → registerKept false reg ≡ isOldRegister reg
@@ -179,3 +169,14 @@ old-kept body e =
       bits = rw e;
       tail = rw e;
     }
+
+-- flags below 64 have no bit 6
+no-bit-6 : (flags : ℕ) → flags < 64 → bit 6 flags ≡ false
+no-bit-6 flags h = let none : flags / 64 ≡ 0 = omega (arith, div-add-mod' flags 64, h) in rw none
+
+-- "banks 8, 9 and bit 6 there being answer 3"
+pub old-flags : (body : List ℕ) → isExtended body ≡ false → fieldRefused body ≡ false → bit 6 (flagsOf body) ≡ false
+unfolding oldFieldRefused
+old-flags body e f =
+    let o : oldFieldRefused body ≡ false = sym (old-kept body e .fields) ∙ f in
+    no-bit-6 (flagsOf body) (leb-false 64 (flagsOf body) (search (neither-left, neither-right, o) depth 12))

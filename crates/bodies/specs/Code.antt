@@ -1,7 +1,6 @@
 -- What contracts inside the printer speak of, and no promise: a body whose length is right.
 -- Assumes nothing.
 use mathlib.Core.Bool.{cond}
-use mathlib.Core.Bool.{cond}
 use mathlib.Core.Path.{_≡_}
 use mathlib.Core.List.{List}
 use Prim.Native.Nat.{ℕ, _+_, _*_, _≤_}

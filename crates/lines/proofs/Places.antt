@@ -167,23 +167,14 @@ module _ (mode : Mode) (arm : Arm) (i : Instruction) {p : Place} where
   unfolding itemAt
   place-branch e = rw e (text-bare (branchOf mode arm i))
 
--- operand 1's register does not matter where a place does not show it
-second-shown : (label : Label) (segment : Segment) (short : Bool) (mask : Mask) (second : ℕ) (b : Broadcast) (o : Operand) → operandShown label segment short mask second b o ≡ operandShown label segment short mask (shownMask mask 0 second) b o
-unfolding operandShown
-second-shown label segment short Itself second b o = refl
-second-shown label segment short Second second b o = refl
-
 -- operand k at a place, as the code has it from the body
 pub place-operand :
     (mode : Mode) (arm : Arm) (body : List ℕ) → countOf body ≤ 4 →
     {p : Place} {k label : ℕ} {segment : Segment} {short : Bool} {mask : Mask} {b : Broadcast} → p ≡ place.Operand k label segment short mask b →
-    {second : ℕ} → second ≡ shownMask mask 0 (registerOf (operandAt body 1)) →
     {o : Operand} → o ≡ operandAt body k →
-    itemText (itemAt mode arm (instructionOf body) p) ≡ itemText (operandShown (labelAt label) segment short mask second b o)
+    itemText (itemAt mode arm (instructionOf body) p) ≡ itemText (operandShown (labelAt label) segment short mask (registerOf (operandAt body 1)) b o)
 unfolding itemAt
-place-operand mode arm body few {k = k} {label} {segment} {short} {mask} {b} e looked is =
-    rw (e, looked, is, operand-in body few k, operand-in body few 1)
-    (ap itemText (second-shown (labelAt label) segment short mask (registerOf (operandIn (instructionOf body) 1)) b (operandIn (instructionOf body) k)))
+place-operand mode arm body few {k = k} e is = rw (e, is, operand-in body few k, operand-in body few 1)
 
 -- an operand shows something exactly where it is there
 shows-operand : (short : Bool) (o : Operand) → shows (valueShown short o) ≡ not (isAbsent o)

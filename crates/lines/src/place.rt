@@ -116,23 +116,13 @@ fn shown_segment(segment: Segment, own: u8) -> u8
     }
 }
 
-// The mask that a place shows of one that an operand has and of operand 1's register.
-fn shown_mask(mask: Mask, own: u8, second: u8) -> u8
-    ensures { λ r. ⌜ r ≡ shownMask mask own second ⌝ }
+// The mask that a place shows: the one that its operand has, or operand 1's register.
+fn shown_mask(body: &[u8], mask: Mask, own: u8) -> u8
+    requires { ⌜ Whole (now body) ⌝ }
+    ensures { λ r. ⌜ r ≡ shownMask mask own (registerOf (operandAt (now (body .entry)) 1)) ⌝ }
 {
     match mask {
         Mask::Itself => own,
-        Mask::Second => second,
-    }
-}
-
-// Operand 1's register, where a place shows it as the mask, and 0 where it does not.
-fn second_at(body: &[u8], mask: Mask) -> u8
-    requires { ⌜ Whole (now body) ⌝ }
-    ensures { λ r. ⌜ r ≡ shownMask mask 0 (registerOf (operandAt (now (body .entry)) 1)) ⌝ }
-{
-    match mask {
-        Mask::Itself => 0,
         Mask::Second => register_at(body, 1),
     }
 }
@@ -196,14 +186,15 @@ fn put_operand(
     segment: Segment,
     short: bool,
     mask: Mask,
-    second: u8,
     broadcast: Broadcast,
+    body: &[u8],
     o: Operand,
 ) -> usize
     requires { ⌜ RegisterTable (now «register_letters») (now «register_starts») ⌝ }
     requires { ⌜ LabelTable (now «label_letters») (now «label_starts») ⌝ }
-    requires { ⌜ Room (now buf) at (itemText (operandShown (labelAt label) segment short mask second broadcast o)) ⌝ }
-    ensures { λ r. ⌜ Put (now (buf .entry)) at (itemText (operandShown (labelAt label) segment short mask second broadcast o)) r (now (buf .exit)) ⌝ }
+    requires { ⌜ Whole (now body) ⌝ }
+    requires { ⌜ Room (now buf) at (itemText (operandShown (labelAt label) segment short mask (registerOf (operandAt (now body) 1)) broadcast o)) ⌝ }
+    ensures { λ r. ⌜ Put (now (buf .entry)) at (itemText (operandShown (labelAt label) segment short mask (registerOf (operandAt (now (body .entry)) 1)) broadcast o)) r (now (buf .exit)) ⌝ }
 {
     match o {
         Operand::Absent => at,
@@ -234,7 +225,7 @@ fn put_operand(
                 next,
                 register_letters,
                 register_starts,
-                shown_mask(mask, 0, second),
+                shown_mask(body, mask, 0),
             );
             broadcast::put_broadcast(buf, next, broadcast)
         }
@@ -256,7 +247,7 @@ fn put_operand(
                 next,
                 register_letters,
                 register_starts,
-                shown_mask(mask, 0, second),
+                shown_mask(body, mask, 0),
             );
             broadcast::put_broadcast(buf, next, broadcast)
         }
@@ -279,7 +270,7 @@ fn put_operand(
                 register_letters,
                 register_starts,
                 address,
-                shown_mask(mask, own_mask, second),
+                shown_mask(body, mask, own_mask),
             );
             broadcast::put_broadcast(buf, next, broadcast)
         }
@@ -334,8 +325,8 @@ fn put_place(
             segment,
             short,
             mask,
-            second_at(body, mask),
             broadcast,
+            body,
             operand_at(body, k),
         ),
     }

@@ -1,19 +1,16 @@
 -- A printed record that is not extended shows nothing of document 02's.
 -- Assumes nothing.
 use mathlib.Core.Path.{_≡_, refl, sym, _∙_}
-use mathlib.Core.Bool.{false, _||_}
+use mathlib.Core.Bool.{false}
 use mathlib.Core.List.{List}
-use Prim.Native.Nat.{ℕ, zero, suc, _/_, _%_, _<_}
-use native.Mathlib.Nat.{div-add-mod'}
-use native.Mathlib.Omega.{arith}
-use lib.Dec.{eqb, leb}
-use borrow.Author.Tests.{leb-false, ne-eqb}
+use Prim.Native.Nat.{ℕ, zero, suc, _<_}
+use borrow.Author.Tests.{leb-false}
 use Rattle.answers.specs.Refusals.{answerOf}
 use Rattle.operands.specs.Parts.{operandIn, maskOf}
-use Rattle.bodies.specs.Body.{opcodeOf, flagsOf, isExtended}
+use Rattle.bodies.specs.Body.{opcodeOf, isExtended}
 use Rattle.bodies.specs.Decoding.{instructionOf}
 use Rattle.bodies.specs.Document01.{oldFieldRefused}
-use Rattle.bodies.proofs.OldKept.{old-kept}
+use Rattle.bodies.proofs.OldKept.{old-kept, old-flags}
 use Rattle.bodies.proofs.Picks.{neither-left, neither-right}
 use Rattle.places.specs.Places.{itemsAt}
 use Rattle.arms.specs.Decorations.{isBroadcast}
@@ -23,10 +20,6 @@ use Rattle.records.specs.Records.{modeOf, armAt, refusals, lineAt}
 use Rattle.records.specs.OldLines.{OldLine}
 use Rattle.records.proofs.Judging.{unrefused}
 
--- flags below 64 have no bit 6
-no-bit-6 : (flags : ℕ) → flags < 64 → eqb (flags / 64 % 2) 1 ≡ false
-no-bit-6 flags h = let none : flags / 64 ≡ 0 = omega (arith, div-add-mod' flags 64, h) in rw none
-
 module _ (asked : Asked) (body : List ℕ) (old : isExtended body ≡ false) (e : answerOf (refusals asked body) ≡ 0) where
   no-field : oldFieldRefused body ≡ false
   no-field = sym (old-kept body old .fields) ∙ unrefused asked body e .no-field
@@ -34,10 +27,6 @@ module _ (asked : Asked) (body : List ℕ) (old : isExtended body ≡ false) (e 
   opcode-below : opcodeOf body < 154
   unfolding oldFieldRefused
   opcode-below = let f = no-field in leb-false 154 (opcodeOf body) (search (neither-left, neither-right, f) depth 12)
-
-  flags-below : flagsOf body < 64
-  unfolding oldFieldRefused
-  flags-below = let f = no-field in leb-false 64 (flagsOf body) (search (neither-left, neither-right, f) depth 12)
 
   unmasked : (k : ℕ) → maskOf (operandIn (instructionOf body) k) ≡ 0
   unfolding instructionOf
@@ -49,7 +38,7 @@ module _ (asked : Asked) (body : List ℕ) (old : isExtended body ≡ false) (e 
 
   once : isBroadcast (instructionOf body) ≡ false
   unfolding instructionOf
-  once = no-bit-6 (flagsOf body) flags-below
+  once = old-flags body old (unrefused asked body e .no-field)
 
   no-scatter : isScatterArm (armAt body) ≡ false
   unfolding instructionOf

@@ -1,16 +1,16 @@
--- `arms::plans::plan_of` meets its contract: a record that takes the general path has that path's plan, with broadcasts and tail where it may have them.
+-- `arms::plans::plan_of` meets its contract: a record that takes the general path has that path's plan, with broadcasts and tail where it is extended.
 -- Assumes nothing.
 use denote.Ref.{now}
 use Rattle.bodies.specs.Decoding.{instructionOf}
 use Rattle.arms.proofs.Results.{results-equal}
 use Rattle.arms.proofs.Mmword.{general-at-8}
-use Rattle.arms.proofs.Over16.{plan-of-general, plan-of-bare, plan-of-own}
+use Rattle.arms.proofs.Over16.{plan-of-general, plan-of-old, plan-of-own}
 use borrow.Author.Needs.{needs}
 use Rattle.arms.proofs.plans.plan_of.Statement.{statement}
 use Rattle.arms.proofs.plans.plan_of.Tie as tie
 
 own-requires : tie.Need-own-requires
-own-requires c κs = (c .before .before .before .before .pre, (c .before .before .size .ensures, results-equal (c .before .is-general .ensures) (c .if1 .left)))
+own-requires c κs = (c .before .before .before .before .pre .0, (c .before .before .size .ensures, results-equal (c .before .is-general .ensures) (c .if1 .left)))
 
 returns : tie.Need-returns
 unfolding instructionOf
@@ -26,7 +26,7 @@ returns-2 c =
     let a = c .before .before .before .before .before .before .before .before .args in
     let i = instructionOf (now (a .body)) in
     let path = results-equal (c .before .before .before .before .before .is-general .ensures) (c .before .before .before .before .if1 .taken) in
-    rw (c .before .before .general .ensures, c .before .before .before .is-mmword .ensures, c .before .before .before .before .before .before .size .ensures, general-at-8) (plan-of-bare (a .arm) i path (results-equal (c .before .is-decorated .ensures) (c .if2 .left)))
+    rw (c .before .before .general .ensures, c .before .before .before .is-mmword .ensures, c .before .before .before .before .before .before .size .ensures, general-at-8) (plan-of-old (a .arm) (now (a .body)) (results-equal (c .before .is-extended .ensures) (c .if2 .left)) (c .before .before .before .before .before .before .before .before .pre .1) path)
 
 returns-3 : tie.Need-returns-3
 returns-3 c =

@@ -10,29 +10,43 @@ use Rattle.lines.proofs.place.put_place.Statement.{statement}
 use Rattle.lines.proofs.place.put_place.Tie as tie
 
 put-register-requires : tie.Need-put-register-requires
-put-register-requires c κs = ((c .before .before .before .before .before .before .pre) .0, room-as (place-register ((c .before .before .before .before .before .before .args) .mode) ((c .before .before .before .before .before .before .args) .arm) (instructionOf (now ((c .before .before .before .before .before .before .args) .body))) ((c .before .before .place) .given .1)) ((c .before .before .before .before .before .before .pre) .1 .1 .1 .1))
+put-register-requires c κs =
+    let s = c .before .before .before .before .before .before in
+    (s .pre .0, room-as (place-register (s .args .mode) (s .args .arm) (instructionOf (now (s .args .body))) (c .before .before .place .given .1)) (s .pre .1 .1 .1 .1))
 
 put-branch-requires : tie.Need-put-branch-requires
-put-branch-requires c κs = ((c .before .before .before .before .before .pre) .1 .1 .0, room-as (place-branch ((c .before .before .before .before .before .args) .mode) ((c .before .before .before .before .before .args) .arm) (instructionOf (now ((c .before .before .before .before .before .args) .body))) ((c .before .enum-told2) .given .1)) ((c .before .before .before .before .before .pre) .1 .1 .1 .1))
+put-branch-requires c κs =
+    let s = c .before .before .before .before .before in
+    (s .pre .1 .1 .0, room-as (place-branch (s .args .mode) (s .args .arm) (instructionOf (now (s .args .body))) (c .before .enum-told2 .given .1)) (s .pre .1 .1 .1 .1))
 
 put-operand-requires : tie.Need-put-operand-requires
-put-operand-requires c κs = ((c .before .before .before .before .before .before .before .before .pre) .0, ((c .before .before .before .before .before .before .before .before .pre) .1 .0, room-as (place-operand ((c .before .before .before .before .before .before .before .before .args) .mode) ((c .before .before .before .before .before .before .before .before .args) .arm) (now ((c .before .before .before .before .before .before .before .before .args) .body)) ((c .before .before .before .before .before .before .before .before .pre) .1 .1 .1 .0) ((c .before .before .before .before .place2) .given .1) ((c .before .second-at) .ensures) ((c .operand-at) .ensures)) ((c .before .before .before .before .before .before .before .before .pre) .1 .1 .1 .1)))
+put-operand-requires c κs =
+    let s = c .before .before .before .before .before .before .before in
+    (s .pre .0, (s .pre .1 .0, (s .pre .1 .1 .0, room-as (place-operand (s .args .mode) (s .args .arm) (now (s .args .body)) (s .pre .1 .1 .1 .0) (c .before .before .before .place2 .given .1) (c .operand-at .ensures)) (s .pre .1 .1 .1 .1))))
 
 returns : tie.Need-returns
-returns c = put-as (sym (place-nothing ((c .before .before .before .before .args) .mode) ((c .before .before .before .before .args) .arm) (instructionOf (now ((c .before .before .before .before .args) .body))) ((c .enum-told) .given .1))) put-none
+returns c =
+    let s = c .before .before .before .before in
+    put-as (sym (place-nothing (s .args .mode) (s .args .arm) (instructionOf (now (s .args .body))) (c .enum-told .given .1))) put-none
 
 returns-2 : tie.Need-returns-2
-returns-2 c = put-as (sym (place-register ((c .before .before .before .before .before .before .before .before .before .args) .mode) ((c .before .before .before .before .before .before .before .before .before .args) .arm) (instructionOf (now ((c .before .before .before .before .before .before .before .before .before .args) .body))) ((c .before .before .before .before .before .place) .given .1))) ((c .before .before .put-register) .ensures)
+returns-2 c =
+    let s = c .before .before .before .before .before .before .before .before .before in
+    put-as (sym (place-register (s .args .mode) (s .args .arm) (instructionOf (now (s .args .body))) (c .before .before .before .before .before .place .given .1))) (c .before .before .put-register .ensures)
 
 returns-3 : tie.Need-returns-3
-returns-3 c = put-as (sym (place-branch ((c .before .before .before .before .before .before .before .before .args) .mode) ((c .before .before .before .before .before .before .before .before .args) .arm) (instructionOf (now ((c .before .before .before .before .before .before .before .before .args) .body))) ((c .before .before .before .before .enum-told2) .given .1))) ((c .before .before .put-branch) .ensures)
+returns-3 c =
+    let s = c .before .before .before .before .before .before .before .before in
+    put-as (sym (place-branch (s .args .mode) (s .args .arm) (instructionOf (now (s .args .body))) (c .before .before .before .before .enum-told2 .given .1))) (c .before .before .put-branch .ensures)
 
 returns-4 : tie.Need-returns-4
-returns-4 c = put-as (sym (place-operand ((c .before .before .before .before .before .before .before .before .before .before .before .args) .mode) ((c .before .before .before .before .before .before .before .before .before .before .before .args) .arm) (now ((c .before .before .before .before .before .before .before .before .before .before .before .args) .body)) ((c .before .before .before .before .before .before .before .before .before .before .before .pre) .1 .1 .1 .0) ((c .before .before .before .before .before .before .before .place2) .given .1) ((c .before .before .before .before .second-at) .ensures) ((c .before .before .before .operand-at) .ensures))) ((c .before .before .put-operand) .ensures)
+returns-4 c =
+    let s = c .before .before .before .before .before .before .before .before .before .before in
+    put-as (sym (place-operand (s .args .mode) (s .args .arm) (now (s .args .body)) (s .pre .1 .1 .1 .0) (c .before .before .before .before .before .before .place2 .given .1) (c .before .before .before .operand-at .ensures))) (c .before .before .put-operand .ensures)
 
 pub put-place-spec : {M : Type 1} → statement M
 put-place-spec =
     tie.close
     (tie.spec
     (search needs) (search needs) put-register-requires (search needs) put-branch-requires (search needs) (search needs)
-    (search needs) put-operand-requires returns (search needs) returns-2 (search needs) returns-3 (search needs) returns-4)
+    put-operand-requires returns (search needs) returns-2 (search needs) returns-3 (search needs) returns-4)

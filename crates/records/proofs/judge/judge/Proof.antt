@@ -61,7 +61,7 @@ plan-of-requires c κs =
     let a = c .before .before .before .before .before .before .before .before .before .args in
     let body = now (a .body) in
     let kept = kept-by body (c .before .before .before .before .before .refused .ensures) (c .before .before .before .before .if2 .left) in
-    whole body (kept .0)
+    (whole body (kept .0), kept .1)
 
 plan-lacks-requires : tie.Need-plan-lacks-requires
 plan-lacks-requires c κs =
