@@ -105,6 +105,19 @@ const fn both_near(base: u8, register: u8, scale: u8) -> Slot {
 const fn seg(segment: u8, slot: Slot) -> Slot {
     Slot { segment, ..slot }
 }
+/// Each form of a bracket, with a scale of 1 and with another.
+const BRACKETS: [Slot; 10] = [
+    at(EBX),
+    near(EBX),
+    index(ESI, 1),
+    index(ESI, 2),
+    index_near(ESI, 1),
+    index_near(ESI, 8),
+    both(EBX, ESI, 1),
+    both(EBX, ESI, 4),
+    both_near(EBX, ESI, 1),
+    both_near(EBX, ESI, 8),
+];
 /// A bracket with the mask k1 to k7.
 const fn masked(mask: u8, slot: Slot) -> Slot {
     Slot { kind: slot.kind + 6, mask: K0 + mask, ..slot }

@@ -104,21 +104,7 @@ pub(super) fn general(rows: &mut Rows) {
         rows.record(op("mov", &[r(EAX), dword()]).size(4).disp(disp));
     }
     rows.section("Brackets: each memory kind as operand 0 and as operand 1, scale 1 without `* 1`");
-    let brackets = [
-        at(EBX),
-        near(EBX),
-        index(ESI, 1),
-        index(ESI, 2),
-        index_near(ESI, 1),
-        index_near(ESI, 8),
-        both(EBX, ESI, 1),
-        both(EBX, ESI, 4),
-        both_near(EBX, ESI, 1),
-        both_near(EBX, ESI, 8),
-        word(),
-        dword(),
-    ];
-    for slot in brackets {
+    for slot in BRACKETS.into_iter().chain([word(), dword()]) {
         rows.record(op("add", &[slot, r(EDX)]).size(4).disp(-16));
         rows.record(op("add", &[r(EDX), seg(SEG_GS, slot)]).size(4).disp(18));
     }

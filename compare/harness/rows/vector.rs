@@ -5,19 +5,7 @@ use super::*;
 /// Each masked kind, and the mask in every arm that shows the operand.
 pub(super) fn masks(rows: &mut Rows) {
     rows.section("Masks: each masked kind as operand 0 and as operand 1, the mask right after the bracket");
-    let brackets = [
-        at(EBX),
-        near(EBX),
-        index(ESI, 1),
-        index(ESI, 2),
-        index_near(ESI, 1),
-        index_near(ESI, 8),
-        both(EBX, ESI, 1),
-        both(EBX, ESI, 4),
-        both_near(EBX, ESI, 1),
-        both_near(EBX, ESI, 8),
-    ];
-    for (k, slot) in brackets.into_iter().enumerate() {
+    for (k, slot) in BRACKETS.into_iter().enumerate() {
         let mask = 1 + k as u8 % 7;
         rows.record(op("add", &[masked(mask, slot), r(EDX)]).size(4).disp(-16));
         rows.record(op("add", &[r(EDX), seg(SEG_GS, masked(mask, slot))]).size(4).disp(18));
