@@ -1,7 +1,7 @@
 -- The head of a line, case by case.
 -- Assumes nothing.
 use mathlib.Core.Path.{_≡_, refl}
-use mathlib.Core.Bool.{Bool, true, false, cond, not, _&&_, _||_, true≢false}
+use mathlib.Core.Bool.{Bool, true, false, cond, not, _&&_, _||_, true≢false, and-false}
 use mathlib.Core.List.{List, [], _∷_, _++_}
 use Prim.Native.Nat.{ℕ, _/_, _%_}
 use lib.Dec.{eqb}
@@ -41,10 +41,6 @@ pub head-by :
     headText (headOf arm opcode flags) ≡ prefixesText (headOf arm 0 flags) ++ (nameText (nameOf arm opcode) ++ when suffix (bytes "d"))
 unfolding headText prefixesText repsText headOf
 head-by arm opcode flags s = rw s
-
-and-false : (b : Bool) → (b && false) ≡ false
-and-false true = refl
-and-false false = refl
 
 -- where no flag is set there is no prefix
 pub no-prefixes : (arm : Arm) {flags : ℕ} → flags ≡ 0 → prefixesText (headOf arm 0 flags) ≡ []
