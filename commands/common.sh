@@ -187,8 +187,22 @@ is_readable() {
     return 1
 }
 
+# take_first_byte: reads it from standard input, into `first_byte`, as three octal digits. Empty: there is none, or it
+# cannot be read. run_program puts it back.
+take_first_byte() { first_byte=$(dd bs=1 count=1 2>/dev/null | od -An -v -to1 | tr -d ' \n'); }
+
+# fed WORDS..: WORDS, with `first_byte` before what is left of standard input, which only a listing of a known version
+# is read for. Where that fails, or the program has ended before, the line `unread` stands on standard error.
+fed() {
+    {
+        # shellcheck disable=SC2059
+        printf "\\$first_byte"
+        case $first_byte in 001 | 002) cat 2>/dev/null || echo unread >&2 ;; esac
+    } | "$@"
+}
+
 # run_program IS_LAST WORDS..: `program` with WORDS, as rt runs it: under the kit's loader and C library where there
-# is a kit. A program has no exit status of its own. What came of it is the last line on standard error that the
+# is a kit. Where `first_byte` was taken from standard input it comes first. A program has no exit status of its own. What came of it is the last line on standard error that the
 # function IS_LAST takes; a run without such a line failed. Other lines there are words of a loader or an emulator,
 # and are passed on.
 #   last    that line; empty where there is none
@@ -199,6 +213,7 @@ run_program() {
     set -- "$program" "$@"
     if [ -n "$loader" ]; then set -- "$loader" --library-path "$tools/lib" "$@"; fi
     if [ -n "$emulator" ]; then set -- "$emulator" "$@"; fi
+    if [ -n "${first_byte:-}" ]; then set -- fed "$@"; fi
     exec 3>&1
     # the x shows where the last line ends
     said=$("$@" 2>&1 >&3 3>&-; ended=$?; printf x; exit "$ended")
@@ -213,6 +228,7 @@ run_program() {
             line=${line%x} left=
         else
             left=${left#*"$line_end"}
+            # shellcheck disable=SC2034
             if "$is_last" "$line"; then last=$line; continue; fi
         fi
         printf '%s\n' "$line" >&2
@@ -245,12 +261,22 @@ verdict_of() {
     esac
 }
 
+# is_verdict_or_unread LINE: it is such a line, which `verdict` then holds, or that of `fed`
+is_verdict_or_unread() {
+    case $1 in
+    unread) unread=yes ;;
+    *) verdict_of "$1" && verdict=$1 ;;
+    esac
+}
+
 # print_listing: runs such a program from standard input to standard output.
 #   records, refused   the numbers of its last line
 #   what               its WHAT; empty where there is no such line
 print_listing() {
-    records='' refused='' what=''
-    run_program verdict_of
+    records='' refused='' what='' verdict='' unread=no
+    run_program is_verdict_or_unread
     what=
-    [ -z "$last" ] || verdict_of "$last"
+    [ -z "$verdict" ] || verdict_of "$verdict"
+    # the program took what failed for the end
+    case $unread:$what in yes:whole | yes:cut*) what='standard input cannot be read' ;; esac
 }

@@ -2,8 +2,8 @@
 #
 # Variables that may be set from outside:
 #   MASM_SRC         the folder that holds document 000 below src/ (default: ../shared/docs/src)
-#   COMPARE_STANDIN  a folder with libhost.a, list_crate and list_straight, built for this machine,
-#                    that take the place of the proved ones; compare/pairs wants compare_listings there
+#   COMPARE_STANDIN  a folder with libhost.a, list_crate, list_straight and list_target, built for this
+#                    machine, that take the place of the proved ones; compare/pairs wants compare_listings there
 #   RATTLE_HOME      the kit's folder (default: found from `rt` on the PATH)
 
 # shellcheck shell=sh disable=SC2034
@@ -113,7 +113,7 @@ find_programs() {
 build_host() {
     archive=$root/target/staticlib/libhost.a
     if [ -z "${COMPARE_STANDIN:-}" ] && [ ! -f "$archive" ]; then die "there is no target/staticlib/libhost.a: run rt staticlib host"; fi
-    find_programs list_crate list_straight
+    find_programs list_crate list_straight list_target
     if [ -n "${COMPARE_STANDIN:-}" ]; then
         cc -O2 -fno-builtin -o "$COMPARE_STANDIN/host" "$here/host/driver.c" "$COMPARE_STANDIN/libhost.a" -lpthread -ldl -lm ||
             die "the host does not link to the stand-in"
@@ -136,7 +136,8 @@ build_host() {
     COMPARE_HOST=$bin/host
     COMPARE_LIST_CRATE=$bin/list_crate
     COMPARE_LIST_STRAIGHT=$bin/list_straight
-    export COMPARE_HOST COMPARE_LIST_CRATE COMPARE_LIST_STRAIGHT
+    COMPARE_LIST_TARGET=$bin/list_target
+    export COMPARE_HOST COMPARE_LIST_CRATE COMPARE_LIST_STRAIGHT COMPARE_LIST_TARGET
 }
 
 # standin FROM TO: builds the stand-in from a copy of compare/direct and compare/standin.
@@ -144,8 +145,12 @@ standin() {
     rustc --edition 2021 -C opt-level=3 --crate-type rlib --crate-name direct -o "$2/libdirect.rlib" "$1/direct/lib.rs" || return
     rustc --edition 2021 -C opt-level=3 -C panic=abort --crate-type staticlib --crate-name host -o "$2/libhost.a" \
         --extern "direct=$2/libdirect.rlib" "$1/standin/export.rs" || return
-    LIST_MODE=0 rustc --edition 2021 -C opt-level=3 --crate-name list_crate -o "$2/list_crate" --extern "direct=$2/libdirect.rlib" "$1/standin/list.rs" || return
-    LIST_MODE=1 rustc --edition 2021 -C opt-level=3 --crate-name list_straight -o "$2/list_straight" --extern "direct=$2/libdirect.rlib" "$1/standin/list.rs"
+    mode=0
+    for name in list_crate list_straight list_target; do
+        LIST_MODE=$mode rustc --edition 2021 -C opt-level=3 --crate-name "$name" -o "$2/$name" \
+            --extern "direct=$2/libdirect.rlib" "$1/standin/list.rs" || return
+        mode=$((mode + 1))
+    done
 }
 
 # apt_mirror: the Debian mirror that this machine's own apt sources name

@@ -4,6 +4,7 @@
  *     gcc -Iinclude -o host examples/host.c target/staticlib/libhost.a
  *     ./host examples/drive.lst
  *     ./host examples/drive.lst crate
+ *     ./host examples/drive2.lst target
  *
  * Three steps: read the file, ask how long the text is by lending a buffer of length 0, print into a
  * buffer of that length. Exit status: 0 printed; 1 the listing could not be read, printed or written;
@@ -55,7 +56,7 @@ static const char *meaning(uint32_t answer)
 {
 	switch (answer) {
 	case MASM_BAD_MODE:
-		return "the mode is neither 0 nor 1";
+		return "the mode is above 2";
 	case MASM_BAD_LENGTH:
 		return "the listing is longer than 16777216 bytes";
 	case MASM_NO_ROOM:
@@ -76,8 +77,10 @@ int main(int argc, char **argv)
 
 	if (argc == 3 && strcmp(argv[2], "crate") == 0)
 		mode = MASM_MODE_CRATE;
+	else if (argc == 3 && strcmp(argv[2], "target") == 0)
+		mode = MASM_MODE_TARGET;
 	else if (argc != 2 && !(argc == 3 && strcmp(argv[2], "straight") == 0)) {
-		fprintf(stderr, "use: %s FILE [crate|straight]\n", argc > 0 ? argv[0] : "host");
+		fprintf(stderr, "use: %s FILE [crate|straight|target]\n", argc > 0 ? argv[0] : "host");
 		return 2;
 	}
 

@@ -1,12 +1,14 @@
 /*
- * Drives the archive through its C boundary: every mode number that matters, every answer, buffers of
- * exactly the right length, one byte less and none at all, with canary bytes all around, and all the
- * lines that document 01 gives to compare; and the vector records of document 02.
+ * Drives the archive through its C boundary: every version and mode number that matters, every answer, buffers
+ * of exactly the right length, one byte less and none at all, with canary bytes all around, and all the lines
+ * that document 01 gives to compare; and the vector records and the targets of document 02. Each body is tried
+ * in both versions.
  *
- *     host_test [LISTING CRATE STRAIGHT]
+ *     host_test [STEM]
  *
- * With three names it also writes the listing of all bodies that it tried, and the lines that the
- * record entry gave for them in the modes 0 and 1, so that the listing programs can be held to them.
+ * With a stem it also writes the listings of all bodies that it tried, STEM1.lst and STEM2.lst, by version, and
+ * the lines that the record entry gave for them in the modes 0 to 2, STEM1.crate, STEM1.straight, STEM1.target
+ * and the same of STEM2, so that the listing programs can be held to them.
  * The last line is `host: K checks, all hold`; exit status 1 if one does not.
  */
 #include <stdarg.h>
@@ -20,7 +22,10 @@ enum {
 	CANARY = 64,       /* watched bytes on either side of a lent buffer */
 	AMPLE = 512,       /* more than any line */
 	PLAIN_MAX = 1289,  /* 14 + 5 * 255, the longest body of a record that is not extended */
-	BODY_MAX = 1546    /* 14 + 6 * 255 + 2, the longest whose length can be right */
+	BODY_MAX = 1546,   /* 14 + 6 * 255 + 2, the longest whose length can be right */
+	FRONT = 4,         /* opcode, flags and length: version 2 has the start address after them */
+	START = 4,         /* its bytes */
+	MODES = 3
 };
 
 static unsigned long checks, failures;
@@ -51,11 +56,11 @@ static void *block(size_t length)
 	return at;
 }
 
-/* ---- record bodies */
+/* ---- record bodies, in the layout of version 1 */
 
 struct body {
 	const char *about;
-	uint8_t bytes[BODY_MAX];
+	uint8_t bytes[BODY_MAX + START];
 	size_t length;
 };
 
@@ -69,6 +74,11 @@ static void put_dword(uint8_t *at, uint32_t value)
 {
 	put_word(at, value >> 16);
 	put_word(at + 2, value);
+}
+
+static uint32_t dword_at(const uint8_t *at)
+{
+	return (uint32_t)at[0] << 24 | (uint32_t)at[1] << 16 | (uint32_t)at[2] << 8 | at[3];
 }
 
 static struct body record(const char *about, unsigned opcode, unsigned length, unsigned size, uint32_t imm, uint32_t disp)
@@ -123,9 +133,21 @@ static struct body flagged(struct body b, unsigned flags)
 	return b;
 }
 
+/* The same body in version 2: with a start address put in. */
+static struct body started(const struct body *b, uint32_t start)
+{
+	struct body second = *b;
+	size_t front = b->length < FRONT ? b->length : FRONT;
+
+	put_dword(second.bytes + front, start);
+	memcpy(second.bytes + front + START, b->bytes + front, b->length - front);
+	second.length += START;
+	return second;
+}
+
 /* opcode numbers, register bytes and segments of documents 01 and 02, as far as they are used here */
 enum {
-	JMP = 0, CALL = 1, LOOP = 3, XBEGIN = 22, MOV = 23, PUSH = 33, FXSAVE = 39, MOVS = 60, LSL = 65, SGDT = 75, LSS = 79, NOP = 80,
+	JMP = 0, CALL = 1, LOOP = 3, JZ = 10, JG = 21, XBEGIN = 22, MOV = 23, PUSH = 33, FXSAVE = 39, MOVS = 60, LSL = 65, SGDT = 75, LSS = 79, NOP = 80,
 	LODS = 89, LEA = 101, AAM = 103, FADD = 112, FLD = 143, FST = 149, VPSCATTERDD = 154, VPSCATTERQQ = 157, VCVTPD2PS = 158,
 	VCVTNEPS2BF16 = 168, VADDPD = 175, OPCODES = 176
 };
@@ -144,12 +166,20 @@ static uint8_t canary(size_t place)
 /* With a length of 0 the header asks for any pointer that is not null. */
 static uint8_t one_byte[1] = {0x5A};
 
-typedef uint64_t entry(const uint8_t *, size_t, uint32_t, uint8_t *, size_t);
+/* What is called: the record entry with this version, or the listing entry, whose input says the version. */
+#define LISTING UINT64_C(4294967296)
+
+static uint64_t print(uint64_t version, const uint8_t *input, size_t input_len, uint32_t mode, uint8_t *text, size_t text_len)
+{
+	if (version == LISTING)
+		return masm_print_listing(input, input_len, mode, text, text_len);
+	return masm_print_record(input, input_len, (uint32_t)version, mode, text, text_len);
+}
 
 /* Calls and holds the outcome to `answer` and `text` (of `needed` bytes; what would be printed, for
    answer 6). Input and buffer are blocks of exactly their lengths, so that a memory checker sees
    what the canaries do not. */
-static void call(entry *print, const char *about, const uint8_t *input, size_t input_len, uint32_t mode, size_t room,
+static void call(uint64_t version, const char *about, const uint8_t *input, size_t input_len, uint32_t mode, size_t room,
                  uint32_t answer, const uint8_t *text, size_t needed)
 {
 	uint8_t *own = input_len > 0 ? memcpy(block(input_len), input, input_len) : one_byte;
@@ -157,19 +187,25 @@ static void call(entry *print, const char *about, const uint8_t *input, size_t i
 	uint8_t *lent = room > 0 ? fenced + CANARY : one_byte;
 	size_t written = answer == MASM_PRINTED ? needed : 0;
 	size_t length = answer == MASM_PRINTED || answer == MASM_NO_ROOM ? needed : 0;
+	char what[160];
 	uint64_t returned;
 	size_t i;
 	int before = 1, past = 1, after = 1;
 
+	if (version == LISTING)
+		snprintf(what, sizeof what, "%s, mode %lu, room %lu", about, (unsigned long)mode, (unsigned long)room);
+	else
+		snprintf(what, sizeof what, "%s, version %lu, mode %lu, room %lu", about, (unsigned long)version, (unsigned long)mode,
+		         (unsigned long)room);
 	for (i = 0; i < CANARY + room + CANARY; i++)
 		fenced[i] = canary(i);
-	returned = print(own, input_len, mode, lent, room);
+	returned = print(version, own, input_len, mode, lent, room);
 
-	check(masm_answer(returned) == answer, "%s, mode %lu, room %lu: answer %lu instead of %lu", about, (unsigned long)mode,
-	      (unsigned long)room, (unsigned long)masm_answer(returned), (unsigned long)answer);
-	check(masm_length(returned) == length, "%s, mode %lu, room %lu: length %lu instead of %lu", about, (unsigned long)mode,
-	      (unsigned long)room, (unsigned long)masm_length(returned), (unsigned long)length);
-	check(returned == (uint64_t)answer * UINT64_C(4294967296) + length, "%s: the two halves do not make up what was returned", about);
+	check(masm_answer(returned) == answer, "%s: answer %lu instead of %lu", what, (unsigned long)masm_answer(returned),
+	      (unsigned long)answer);
+	check(masm_length(returned) == length, "%s: length %lu instead of %lu", what, (unsigned long)masm_length(returned),
+	      (unsigned long)length);
+	check(returned == (uint64_t)answer * UINT64_C(4294967296) + length, "%s: the two halves do not make up what was returned", what);
 
 	for (i = 0; i < CANARY; i++)
 		before &= fenced[i] == canary(i);
@@ -177,48 +213,59 @@ static void call(entry *print, const char *about, const uint8_t *input, size_t i
 		past &= fenced[i] == canary(i);
 	for (i = CANARY + room; i < CANARY + room + CANARY; i++)
 		after &= fenced[i] == canary(i);
-	check(before, "%s, mode %lu, room %lu: bytes before the buffer changed", about, (unsigned long)mode, (unsigned long)room);
-	check(past, "%s, mode %lu, room %lu: bytes past the printed length changed", about, (unsigned long)mode, (unsigned long)room);
-	check(after, "%s, mode %lu, room %lu: bytes after the buffer changed", about, (unsigned long)mode, (unsigned long)room);
-	check(written == 0 || memcmp(fenced + CANARY, text, written) == 0, "%s, mode %lu, room %lu: `%.*s` instead of `%.*s`", about,
-	      (unsigned long)mode, (unsigned long)room, (int)written, (const char *)fenced + CANARY, (int)written, (const char *)text);
-	check(input_len == 0 || memcmp(own, input, input_len) == 0, "%s: the input changed", about);
-	check(one_byte[0] == 0x5A, "%s: the byte after a pointer of length 0 changed", about);
+	check(before, "%s: bytes before the buffer changed", what);
+	check(past, "%s: bytes past the printed length changed", what);
+	check(after, "%s: bytes after the buffer changed", what);
+	check(written == 0 || memcmp(fenced + CANARY, text, written) == 0, "%s: `%.*s` instead of `%.*s`", what, (int)written,
+	      (const char *)fenced + CANARY, (int)written, (const char *)text);
+	check(input_len == 0 || memcmp(own, input, input_len) == 0, "%s: the input changed", what);
+	check(one_byte[0] == 0x5A, "%s: the byte after a pointer of length 0 changed", what);
 
 	free(fenced);
 	if (input_len > 0)
 		free(own);
 }
 
-/* The outcome in all rooms that make a difference, and in modes that are none. */
-static void outcome(entry *print, const char *about, const uint8_t *input, size_t input_len, uint32_t mode, uint32_t answer,
+/* The outcome in all rooms that make a difference. */
+static void outcome(uint64_t version, const char *about, const uint8_t *input, size_t input_len, uint32_t mode, uint32_t answer,
                     const uint8_t *text, size_t needed)
 {
 	if (answer == MASM_PRINTED) {
-		call(print, about, input, input_len, mode, needed + AMPLE, MASM_PRINTED, text, needed);
-		call(print, about, input, input_len, mode, needed, MASM_PRINTED, text, needed);
+		call(version, about, input, input_len, mode, needed + AMPLE, MASM_PRINTED, text, needed);
+		call(version, about, input, input_len, mode, needed, MASM_PRINTED, text, needed);
 		if (needed > 0) {
-			call(print, about, input, input_len, mode, needed - 1, MASM_NO_ROOM, text, needed);
-			call(print, about, input, input_len, mode, 0, MASM_NO_ROOM, text, needed);
+			call(version, about, input, input_len, mode, needed - 1, MASM_NO_ROOM, text, needed);
+			call(version, about, input, input_len, mode, 0, MASM_NO_ROOM, text, needed);
 		}
 	} else {
-		call(print, about, input, input_len, mode, AMPLE, answer, NULL, 0);
-		call(print, about, input, input_len, mode, 1, answer, NULL, 0);
-		call(print, about, input, input_len, mode, 0, answer, NULL, 0);
+		call(version, about, input, input_len, mode, AMPLE, answer, NULL, 0);
+		call(version, about, input, input_len, mode, 1, answer, NULL, 0);
+		call(version, about, input, input_len, mode, 0, answer, NULL, 0);
 	}
-	call(print, about, input, input_len, 2, AMPLE, MASM_BAD_MODE, NULL, 0);
-	call(print, about, input, input_len, UINT32_MAX, AMPLE, MASM_BAD_MODE, NULL, 0);
-	call(print, about, input, input_len, UINT32_MAX, 0, MASM_BAD_MODE, NULL, 0);
 }
 
-/* ---- all bodies that were tried: as one listing, with the lines that it has to print */
+/* Answer 1, before all others: with room and without. */
+static void bad_mode(uint64_t version, const char *about, const uint8_t *input, size_t input_len, uint32_t mode)
+{
+	call(version, about, input, input_len, mode, AMPLE, MASM_BAD_MODE, NULL, 0);
+	call(version, about, input, input_len, mode, 0, MASM_BAD_MODE, NULL, 0);
+}
+
+/* In modes that are none. */
+static void bad_modes(uint64_t version, const char *about, const uint8_t *input, size_t input_len)
+{
+	call(version, about, input, input_len, MODES, AMPLE, MASM_BAD_MODE, NULL, 0);
+	bad_mode(version, about, input, input_len, UINT32_MAX);
+}
+
+/* ---- all bodies that were tried: as one listing of each version, with the lines that it has to print in each mode */
 
 struct bytes {
 	uint8_t *at;
 	size_t length, room;
 };
 
-static struct bytes listing, lines[2];
+static struct bytes listing[2], lines[2][MODES];
 
 static void append(struct bytes *to, const void *from, size_t length)
 {
@@ -249,22 +296,85 @@ static void append_line(struct bytes *to, uint32_t answer, const char *text)
 	append(to, "\n", 1);
 }
 
-/* A body in both modes: the line of each mode, or NULL and the answer that refuses it. */
+static void append_body(struct bytes *to, const struct body *b)
+{
+	uint8_t frame[2];
+
+	put_word(frame, (uint32_t)b->length);
+	append(to, frame, 2);
+	append(to, b->bytes, b->length);
+}
+
+static size_t length_of(const char *text)
+{
+	return text != NULL ? strlen(text) : 0;
+}
+
+/* The line of mode 2: that of mode 1, with start address plus length plus distance in place of $ and what follows. */
+static const char *target_of(const struct body *b, uint32_t start, const char *straight, char room[AMPLE])
+{
+	const char *dollar = straight != NULL ? strchr(straight, '$') : NULL;
+	uint32_t distance = dword_at(b->bytes + 5), target;
+
+	if (dollar == NULL)
+		return straight;
+	if (b->bytes[14] == 3)
+		distance = (distance & 0x7F) - (distance & 0x80);
+	target = start + b->bytes[3] + distance;
+	snprintf(room, AMPLE, "%.*s%s%08lXh", (int)(dollar - straight), straight, target >= UINT32_C(0xA0000000) ? "0" : "",
+	         (unsigned long)target);
+	return room;
+}
+
+/* A body in version 2 with this start address, in each mode. */
+static void body_from(const struct body *b, uint32_t start, uint32_t answer, const char *const text[MODES])
+{
+	struct body second = started(b, start);
+	uint32_t mode;
+
+	append_body(&listing[1], &second);
+	for (mode = 0; mode < MODES; mode++) {
+		outcome(MASM_VERSION_2, b->about, second.bytes, second.length, mode, answer, (const uint8_t *)text[mode],
+		        length_of(text[mode]));
+		append_line(&lines[1][mode], answer, text[mode]);
+	}
+	bad_modes(MASM_VERSION_2, b->about, second.bytes, second.length);
+}
+
+/* A body in both versions and all modes: the line of the modes 0 and 1, or NULL and the answer that refuses it. A
+   branch is tried from every start address below, any other body from one of them. */
 static void body_in_modes(const struct body *b, uint32_t answer, const char *crate, const char *straight)
 {
-	const char *text[2];
-	uint8_t frame[2];
+	static const uint32_t starts[] = {UINT32_C(0x00401000), 0, UINT32_MAX, UINT32_C(0x80000000), UINT32_C(0x9FFFFF80), 0x7F};
+	static const uint32_t none[] = {0, 3, UINT32_MAX};
+	static unsigned turn;
+	struct body second = started(b, 0);
+	const char *text[MODES];
+	char room[AMPLE];
+	unsigned count = sizeof starts / sizeof starts[0], k;
 	uint32_t mode;
 
 	text[0] = crate;
 	text[1] = straight;
-	put_word(frame, (uint32_t)b->length);
-	append(&listing, frame, 2);
-	append(&listing, b->bytes, b->length);
+	append_body(&listing[0], b);
 	for (mode = 0; mode < 2; mode++) {
-		outcome(masm_print_record, b->about, b->bytes, b->length, mode, answer, (const uint8_t *)text[mode],
-		        text[mode] != NULL ? strlen(text[mode]) : 0);
-		append_line(&lines[mode], answer, text[mode]);
+		outcome(MASM_VERSION_1, b->about, b->bytes, b->length, mode, answer, (const uint8_t *)text[mode], length_of(text[mode]));
+		append_line(&lines[0][mode], answer, text[mode]);
+	}
+	bad_mode(MASM_VERSION_1, b->about, b->bytes, b->length, MASM_MODE_TARGET);
+	append_line(&lines[0][MASM_MODE_TARGET], MASM_BAD_MODE, NULL);
+	bad_modes(MASM_VERSION_1, b->about, b->bytes, b->length);
+
+	turn++;
+	for (k = 0; k < count; k++) {
+		if (k > 0 && (straight == NULL || strchr(straight, '$') == NULL))
+			break;
+		text[2] = target_of(b, starts[(turn + k) % count], straight, room);
+		body_from(b, starts[(turn + k) % count], answer, text);
+	}
+	for (k = 0; k < sizeof none / sizeof none[0]; k++) {
+		bad_mode(none[k], b->about, b->bytes, b->length, (turn + k) % MODES);
+		call(none[k], b->about, second.bytes, second.length, turn % (MODES + 1), AMPLE, MASM_BAD_MODE, NULL, 0);
 	}
 }
 
@@ -406,6 +516,30 @@ static void body_lengths(void)
 	}
 }
 
+/* Bodies that are right in the other version, or short by what version 2 has more. */
+static void lengths_of_versions(void)
+{
+	struct body b = record("nop", NOP, 1, 0, 0, 0), second = started(&b, UINT32_C(0x00401000));
+	uint32_t mode;
+
+	for (mode = 0; mode < MODES; mode++) {
+		b = second;
+		for (b.length = 0; b.length < 18; b.length++)
+			outcome(MASM_VERSION_2, "a body under 18 bytes", b.bytes, b.length, mode, MASM_BAD_LENGTH, NULL, 0);
+		outcome(MASM_VERSION_2, "a body of 18 bytes", b.bytes, b.length, mode, MASM_PRINTED, (const uint8_t *)"nop", 3);
+		b.length++;
+		outcome(MASM_VERSION_2, "a body of 19 bytes", b.bytes, b.length, mode, MASM_BAD_LENGTH, NULL, 0);
+		b = with(record("push of version 1", PUSH, 2, 4, 5, 0), 3, NONE, 0, 0, 0);
+		outcome(MASM_VERSION_2, b.about, b.bytes, b.length, mode, MASM_BAD_LENGTH, NULL, 0);
+		b = started(&b, UINT32_C(0x00401000));
+		outcome(MASM_VERSION_2, b.about, b.bytes, b.length, mode, MASM_PRINTED, (const uint8_t *)"push 5", 6);
+		if (mode < 2)
+			outcome(MASM_VERSION_1, "push of version 2", b.bytes, b.length, mode, MASM_BAD_LENGTH, NULL, 0);
+		else
+			bad_mode(MASM_VERSION_1, "push of version 2", b.bytes, b.length, mode);
+	}
+}
+
 /* ---- every refusal, and which one goes first */
 
 static void refusals(void)
@@ -443,7 +577,7 @@ static void refusals(void)
 	       "movs byte ptr ds:[edi], byte ptr [esi]");
 	prints(with(record("xbegin with 8 bits", XBEGIN, 6, 0, 5, 0), 3, NONE, 0, 0, 0), "xbegin 5");
 
-	/* the first that applies; every one of these is also tried in mode 2 (1) and in no room (6) */
+	/* the first that applies; every one of these is also tried in other versions and modes (1) and in no room (6) */
 	b = record("a length and a field", OPCODES, 0, 0, 0, 0);
 	b.length = 15;
 	refused(b, MASM_BAD_LENGTH);
@@ -560,110 +694,236 @@ static void vector_records(void)
 	b = decorated("the longest line", 1);
 	prints(b, longest);
 	check(sizeof longest - 1 == 257, "the longest line has %lu bytes", (unsigned long)(sizeof longest - 1));
-	call(masm_print_record, b.about, b.bytes, b.length, MASM_MODE_STRAIGHT, 256, MASM_NO_ROOM, (const uint8_t *)longest, 257);
-	call(masm_print_record, b.about, b.bytes, b.length, MASM_MODE_STRAIGHT, MASM_LINE_MAX, MASM_PRINTED, (const uint8_t *)longest, 257);
+	call(MASM_VERSION_1, b.about, b.bytes, b.length, MASM_MODE_STRAIGHT, 256, MASM_NO_ROOM, (const uint8_t *)longest, 257);
+	call(MASM_VERSION_1, b.about, b.bytes, b.length, MASM_MODE_STRAIGHT, MASM_LINE_MAX, MASM_PRINTED, (const uint8_t *)longest, 257);
+	b = started(&b, UINT32_MAX);
+	call(MASM_VERSION_2, b.about, b.bytes, b.length, MASM_MODE_TARGET, 256, MASM_NO_ROOM, (const uint8_t *)longest, 257);
+	call(MASM_VERSION_2, b.about, b.bytes, b.length, MASM_MODE_TARGET, MASM_LINE_MAX, MASM_PRINTED, (const uint8_t *)longest, 257);
+}
+
+/* ---- document 02, W-205: where a branch goes. These lines are written out, not reckoned. */
+
+static void goes_to(struct body b, uint32_t start, const char *crate, const char *straight, const char *target)
+{
+	const char *text[MODES];
+
+	text[0] = crate;
+	text[1] = straight;
+	text[2] = target;
+	body_from(&b, start, MASM_PRINTED, text);
+}
+
+static void targets(void)
+{
+	struct body b;
+
+	/* the three of the proofs' table */
+	goes_to(jump("kind 3, back past 0", 3, 2, 0xFC), 0, "jmp $-2", "jmp short $-2", "jmp short 0FFFFFFFEh");
+	goes_to(jump("kind 5, ahead past 2^32", 5, 5, 32), UINT32_C(0xFFFFFFF0), "jmp $+25h", "jmp near ptr $+25h", "jmp near ptr 00000015h");
+	goes_to(branch("a call with a leading 0", CALL, 5, 5, UINT32_C(0xFFBFEF7B)), UINT32_C(0x00401000), "call $-401080h", "call $-401080h",
+	        "call 0FFFFFF80h");
+
+	/* the distance of kind 3 is signed in 8 bits, and its sum is not cut to them */
+	goes_to(jump("short jump, 126, from an address", 3, 2, 126), UINT32_C(0x00400F99), "jmp $-80h", "jmp short $+80h", "jmp short 00401019h");
+	goes_to(jump("short jump, -128", 3, 2, 0x80), UINT32_C(0x00401000), "jmp $-7Eh", "jmp short $-7Eh", "jmp short 00400F82h");
+	goes_to(jump("short jump, the low 8 bits of imm", 3, 2, UINT32_C(0xABCDEF10)), 0x10, "jmp $+12h", "jmp short $+12h", "jmp short 00000022h");
+	goes_to(jump("the longest instruction", 3, 15, 127), UINT32_C(0xFFFFFFFF), "jmp $-72h", "jmp short $+8Eh", "jmp short 0000008Dh");
+
+	/* around the ends of 32 bits, and each first digit that wants a 0 */
+	goes_to(branch("to 0", JZ, 5, 6, UINT32_C(0xFFBFEFFA)), UINT32_C(0x00401000), "jz $-401000h", "jz near ptr $-401000h",
+	        "jz near ptr 00000000h");
+	goes_to(branch("to 2^32 - 1", JZ, 5, 6, UINT32_C(0xFFBFEFF9)), UINT32_C(0x00401000), "jz $-401001h", "jz near ptr $-401001h",
+	        "jz near ptr 0FFFFFFFFh");
+	goes_to(branch("to 9FFFFFFF", JG, 5, 6, 0), UINT32_C(0x9FFFFFF9), "jg $+6", "jg near ptr $+6", "jg near ptr 9FFFFFFFh");
+	goes_to(branch("to A0000000", JG, 5, 6, 1), UINT32_C(0x9FFFFFF9), "jg $+7", "jg near ptr $+7", "jg near ptr 0A0000000h");
+	goes_to(branch("to 0A000000", JG, 3, 2, 0), UINT32_C(0x09FFFFFE), "jg $+2", "jg short $+2", "jg short 0A000000h");
+
+	/* no word */
+	goes_to(branch("short call", CALL, 3, 2, 127), UINT32_C(0x9FFFFFFF), "call $-7Fh", "call $+81h", "call 0A0000080h");
+	goes_to(branch("xbegin", XBEGIN, 5, 6, 122), UINT32_C(0x0ABCDEF0), "xbegin near ptr $+80h", "xbegin $+80h", "xbegin 0ABCDF70h");
+
+	/* no target */
+	goes_to(branch("xbegin of kind 3", XBEGIN, 3, 6, 122), UINT32_C(0x00401000), "xbegin 7Ah", "xbegin 7Ah", "xbegin 7Ah");
+	b = with(record("jmp to a register", JMP, 2, 0, 0, 0), 2, NONE, EAX, 0, 0);
+	goes_to(b, UINT32_C(0x00401000), "jmp eax", "jmp eax", "jmp eax");
+	b = with(record("jmp through an absolute", JMP, 6, 4, 0, UINT32_C(0x00402000)), 10, NONE, 0, 0, 0);
+	goes_to(b, UINT32_C(0x00401000), "jmp dword ptr [00402000h]", "jmp dword ptr [00402000h]", "jmp dword ptr [00402000h]");
+	b = with(record("an immediate", PUSH, 5, 4, UINT32_C(0x00401000), 0), 5, NONE, 0, 0, 0);
+	goes_to(b, UINT32_C(0x00401000), "push 401000h", "push 401000h", "push 401000h");
+	b = with(jump("a second operand, which is dropped", 3, 2, 16), 5, NONE, 0, 0, 0);
+	goes_to(b, UINT32_C(0x00401000), "jmp $+12h", "jmp short $+12h", "jmp short 00401012h");
 }
 
 /* ---- listings */
 
-static void prints_listing(const char *about, const uint8_t *input, size_t length, const char *text)
+/* `text` in the modes 0 and 1, `target` in mode 2. */
+static void prints_listing(const char *about, const uint8_t *input, size_t length, const char *text, const char *target)
 {
 	uint32_t mode;
 
-	for (mode = 0; mode < 2; mode++)
-		outcome(masm_print_listing, about, input, length, mode, MASM_PRINTED, (const uint8_t *)text, strlen(text));
+	for (mode = 0; mode < MODES; mode++) {
+		const char *line = mode == MASM_MODE_TARGET ? target : text;
+
+		outcome(LISTING, about, input, length, mode, MASM_PRINTED, (const uint8_t *)line, strlen(line));
+	}
+	bad_modes(LISTING, about, input, length);
+}
+
+/* One listing of a record, a jump near ptr $+80h, and all that it can be cut to; `target` is its line in mode 2. */
+static void small_listing(const uint8_t *whole, size_t size, const char *target)
+{
+	uint8_t twice[64];
+	char about[64], both[128];
+	size_t length;
+
+	prints_listing("one record", whole, size, "jmp near ptr $+80h\n", target);
+	prints_listing("a version byte alone", whole, 1, "", "");
+	for (length = 2; length < size; length++) {
+		snprintf(about, sizeof about, "the whole input cut to %u bytes", (unsigned)length);
+		prints_listing(about, whole, length, "; cut\n", "; cut\n");
+	}
+	memcpy(twice, whole, size);
+	memcpy(twice + size, whole + 1, size - 1);
+	snprintf(both, sizeof both, "%s%s", target, target);
+	prints_listing("two records", twice, 2 * size - 1, "jmp near ptr $+80h\njmp near ptr $+80h\n", both);
+	snprintf(both, sizeof both, "%s; cut\n", target);
+	for (length = size + 1; length < 2 * size - 1; length++) {
+		snprintf(about, sizeof about, "two records cut to %u bytes", (unsigned)length);
+		prints_listing(about, twice, length, "jmp near ptr $+80h\n; cut\n", both);
+	}
 }
 
 static void small_listings(void)
 {
 	static const uint8_t whole[22] = {0x01, 0x00, 0x13, 0x00, 0x00, 0x00, 0x05, 0x00, 0x00, 0x00, 0x00,
 	                                  0x7B, 0x00, 0x00, 0x00, 0x00, 0x01, 0x05, 0x00, 0x00, 0x00, 0x00};
-	uint8_t twice[22 + 21], bad[5] = {1, 0, 2, 0, 0}, other[3] = {2, 0, 0};
+	static const uint8_t second[26] = {0x02, 0x00, 0x17, 0x00, 0x00, 0x00, 0x05, 0x89, 0xAB, 0xCD, 0xEF, 0x00, 0x00,
+	                                   0x00, 0x00, 0x7B, 0x00, 0x00, 0x00, 0x00, 0x01, 0x05, 0x00, 0x00, 0x00, 0x00};
+	static const unsigned others[] = {0, 3, 4, 0x10, 0x7F, 0x80, 0xFF};
+	uint8_t bad[5] = {1, 0, 2, 0, 0}, mixed[26];
 	char about[64];
-	size_t length;
+	unsigned k;
 
-	prints_listing("document 01's whole input", whole, sizeof whole, "jmp near ptr $+80h\n");
-	prints_listing("an empty listing", NULL, 0, "; cut\n");
-	prints_listing("a version byte alone", whole, 1, "");
-	for (length = 2; length < sizeof whole; length++) {
-		snprintf(about, sizeof about, "the whole input cut to %u bytes", (unsigned)length);
-		prints_listing(about, whole, length, "; cut\n");
+	/* document 01's whole input, and the same from 89ABCDEFh */
+	small_listing(whole, sizeof whole, "; refused 1\n");
+	small_listing(second, sizeof second, "jmp near ptr 89ABCE6Fh\n");
+	prints_listing("an empty listing", NULL, 0, "; cut\n", "; cut\n");
+	for (bad[0] = 1; bad[0] < 3; bad[0]++) {
+		const char *target = bad[0] == 1 ? "; refused 1\n" : "; refused 2\n";
+
+		bad[2] = 2;
+		prints_listing("a record of 2 bytes", bad, sizeof bad, "; refused 2\n", target);
+		bad[2] = 0;
+		prints_listing("a record of 0 bytes", bad, 3, "; refused 2\n", target);
 	}
-	memcpy(twice, whole, sizeof whole);
-	memcpy(twice + sizeof whole, whole + 1, sizeof whole - 1);
-	prints_listing("two records", twice, sizeof twice, "jmp near ptr $+80h\njmp near ptr $+80h\n");
-	for (length = sizeof whole + 1; length < sizeof twice; length++) {
-		snprintf(about, sizeof about, "two records cut to %u bytes", (unsigned)length);
-		prints_listing(about, twice, length, "jmp near ptr $+80h\n; cut\n");
+	/* the version byte alone says how a body is read */
+	memcpy(mixed, whole, sizeof whole);
+	mixed[0] = 2;
+	prints_listing("a body of version 1 in a listing of version 2", mixed, sizeof whole, "; refused 2\n", "; refused 2\n");
+	memcpy(mixed, second, sizeof second);
+	mixed[0] = 1;
+	prints_listing("a body of version 2 in a listing of version 1", mixed, sizeof second, "; refused 2\n", "; refused 1\n");
+	for (k = 0; k < sizeof others / sizeof others[0]; k++) {
+		mixed[0] = (uint8_t)others[k];
+		snprintf(about, sizeof about, "version byte %u", others[k]);
+		prints_listing(about, mixed, sizeof second, "; version\n", "; version\n");
+		prints_listing(about, mixed, 1, "; version\n", "; version\n");
 	}
-	prints_listing("a record of 2 bytes", bad, sizeof bad, "; refused 2\n");
-	bad[2] = 0;
-	prints_listing("a record of 0 bytes", bad, 3, "; refused 2\n");
-	prints_listing("version 2", other, sizeof other, "; version\n");
-	other[0] = 0;
-	prints_listing("version 0", other, sizeof other, "; version\n");
 }
 
-/* All bodies so far, as one listing: each line is the record entry's. */
+/* Frames longer than any record: the longest bodies of a right length, a byte more, and the longest frame there is. */
+static void long_frames(void)
+{
+	static const size_t lengths[] = {BODY_MAX, BODY_MAX + START, BODY_MAX + START + 1, 65535};
+	uint8_t *input = block(1 + 2 + 65535);
+	unsigned version, k;
+
+	for (version = 1; version < 3; version++)
+		for (k = 0; k < sizeof lengths / sizeof lengths[0]; k++) {
+			memset(input, 0, 3 + lengths[k]);
+			input[0] = (uint8_t)version;
+			put_word(input + 1, (uint32_t)lengths[k]);
+			prints_listing("a long frame", input, 3 + lengths[k], "; refused 2\n", version == 1 ? "; refused 1\n" : "; refused 2\n");
+			prints_listing("a long frame that is cut", input, 2 + lengths[k], "; cut\n", "; cut\n");
+		}
+	free(input);
+}
+
+/* All bodies so far, as one listing of each version: each line is the record entry's. */
 static void the_same_as_one_listing(void)
 {
+	unsigned which;
 	uint32_t mode;
 
-	for (mode = 0; mode < 2; mode++)
-		outcome(masm_print_listing, "all bodies as one listing", listing.at, listing.length, mode, MASM_PRINTED,
-		        lines[mode].at, lines[mode].length);
+	for (which = 0; which < 2; which++) {
+		for (mode = 0; mode < MODES; mode++)
+			outcome(LISTING, "all bodies as one listing", listing[which].at, listing[which].length, mode, MASM_PRINTED,
+			        lines[which][mode].at, lines[which][mode].length);
+		bad_modes(LISTING, "all bodies as one listing", listing[which].at, listing[which].length);
+	}
 }
 
 /* A listing whose text is of `needed` bytes: asked for its length, and printed. `text` has a byte more. */
-static void prints_long(const char *about, const uint8_t *input, size_t length, uint8_t *text, size_t needed)
+static void prints_long(const char *about, const uint8_t *input, size_t length, uint32_t mode, uint8_t *text, size_t needed)
 {
-	uint64_t returned = masm_print_listing(input, length, MASM_MODE_STRAIGHT, one_byte, 0);
+	uint64_t returned = masm_print_listing(input, length, mode, one_byte, 0);
 
 	check(masm_answer(returned) == MASM_NO_ROOM && masm_length(returned) == needed, "%s, no room: answer %lu, length %lu", about,
 	      (unsigned long)masm_answer(returned), (unsigned long)masm_length(returned));
 	text[needed] = 0x5A;
-	returned = masm_print_listing(input, length, MASM_MODE_STRAIGHT, text, needed);
+	returned = masm_print_listing(input, length, mode, text, needed);
 	check(masm_answer(returned) == MASM_PRINTED && masm_length(returned) == needed, "%s: answer %lu, length %lu", about,
 	      (unsigned long)masm_answer(returned), (unsigned long)masm_length(returned));
 	check(text[needed] == 0x5A, "%s: the byte after the text changed", about);
 }
 
-/* Exactly 16777216 bytes are printed, and one more is refused. Frames of 0 bytes are the most records
-   that there can be, and the second listing has the longest text: the length returned has to hold it. */
-static void the_longest_listing(void)
+/* A listing of this version and of 16777216 bytes, which are 8388607 frames of 0 bytes and half a length, in this mode:
+   each frame prints `line`. A byte more is refused. */
+static void the_most_records(unsigned version, uint32_t mode, const char *line, uint8_t *input, uint8_t *text)
 {
-	static const char line[] =
-	    "xacquire xrelease lock vcvtneps2bf16 xmmword ptr fs:[eax + ecx * 8 - 80000000h], "
-	    "xmmword ptr fs:[eax + ecx * 8 - 80000000h]{1to16}, xmmword ptr fs:[eax + ecx * 8 - 80000000h]{1to16}, "
-	    "xmmword ptr fs:[eax + ecx * 8 - 80000000h]{1to16} {ru-sae}\n";
-	const size_t length = MASM_LISTING_MAX, empty = (length - 1) / 2, most = 106844360, each = sizeof line - 1;
-	struct body b = decorated("the line with the most text for its bytes", 0);
-	size_t frame = 2 + b.length, full = (length - 1) / frame, i;
-	uint8_t *input = block(length + 1), *text = block(most + 1);
+	const size_t length = MASM_LISTING_MAX, empty = (length - 1) / 2;
 	uint64_t returned;
+	size_t i;
 	int same = 1;
 
-	/* 8388607 frames of 0 bytes, and half a length */
-	memset(input, 0, length + 1);
-	input[0] = 1;
+	input[0] = (uint8_t)version;
 	check(12 * empty + 6 == 100663290, "the numbers of this test");
-	prints_long("the most records", input, length, text, 12 * empty + 6);
+	prints_long("the most records", input, length, mode, text, 12 * empty + 6);
 	for (i = 0; i < empty; i++)
-		same &= memcmp(text + 12 * i, "; refused 2\n", 12) == 0;
+		same &= memcmp(text + 12 * i, line, 12) == 0;
 	same &= memcmp(text + 12 * empty, "; cut\n", 6) == 0;
-	check(same, "the most records print something else");
+	check(same, "the most records print something else, version %u, mode %lu", version, (unsigned long)mode);
 
 	memset(text, 0x5A, 64);
-	returned = masm_print_listing(input, length + 1, MASM_MODE_STRAIGHT, text, most);
+	returned = masm_print_listing(input, length + 1, mode, text, 12 * empty);
 	check(masm_answer(returned) == MASM_BAD_LENGTH && masm_length(returned) == 0, "a byte too many: answer %lu, length %lu",
 	      (unsigned long)masm_answer(returned), (unsigned long)masm_length(returned));
 	same = 1;
 	for (i = 0; i < 64; i++)
 		same &= text[i] == 0x5A;
 	check(same, "a byte too many: the buffer changed");
-	returned = masm_print_listing(input, length + 1, 2, one_byte, 0);
-	check(masm_answer(returned) == MASM_BAD_MODE && masm_length(returned) == 0, "a byte too many in mode 2: answer %lu, length %lu",
+	returned = masm_print_listing(input, length + 1, MODES, one_byte, 0);
+	check(masm_answer(returned) == MASM_BAD_MODE && masm_length(returned) == 0, "a byte too many in mode 3: answer %lu, length %lu",
 	      (unsigned long)masm_answer(returned), (unsigned long)masm_length(returned));
+}
+
+/* Exactly 16777216 bytes are printed, and one more is refused. Frames of 0 bytes are the most records
+   that there can be, and the last listing has the longest text: the length returned has to hold it. */
+static void the_longest_listing(void)
+{
+	static const char line[] =
+	    "xacquire xrelease lock vcvtneps2bf16 xmmword ptr fs:[eax + ecx * 8 - 80000000h], "
+	    "xmmword ptr fs:[eax + ecx * 8 - 80000000h]{1to16}, xmmword ptr fs:[eax + ecx * 8 - 80000000h]{1to16}, "
+	    "xmmword ptr fs:[eax + ecx * 8 - 80000000h]{1to16} {ru-sae}\n";
+	const size_t length = MASM_LISTING_MAX, most = 106844360, each = sizeof line - 1;
+	struct body b = decorated("the line with the most text for its bytes", 0);
+	size_t frame = 2 + b.length, full = (length - 1) / frame, i;
+	uint8_t *input = block(length + 1), *text = block(most + 1);
+	int same = 1;
+
+	memset(input, 0, length + 1);
+	the_most_records(1, MASM_MODE_TARGET, "; refused 1\n", input, text);
+	the_most_records(1, MASM_MODE_STRAIGHT, "; refused 2\n", input, text);
 
 	/* 441505 frames of 38 bytes, then twelve of 0 bytes and half a length, which are 0 already */
 	for (i = 0; i < full; i++) {
@@ -671,8 +931,7 @@ static void the_longest_listing(void)
 		memcpy(input + 1 + frame * i + 2, b.bytes, b.length);
 	}
 	check(full == 441505 && each * full + 12 * 12 + 6 == most, "the numbers of this test");
-	prints_long("the longest text", input, length, text, most);
-	same = 1;
+	prints_long("the longest text", input, length, MASM_MODE_STRAIGHT, text, most);
 	for (i = 0; i < full; i++)
 		same &= memcmp(text + each * i, line, each) == 0;
 	for (i = 0; i < 12; i++)
@@ -683,10 +942,13 @@ static void the_longest_listing(void)
 	free(text);
 }
 
-static void store(const char *path, const struct bytes *what)
+static void store(const char *stem, unsigned version, const char *ending, const struct bytes *what)
 {
-	FILE *file = fopen(path, "wb");
+	char path[4096];
+	FILE *file;
 
+	snprintf(path, sizeof path, "%s%u.%s", stem, version, ending);
+	file = fopen(path, "wb");
 	if (file == NULL || fwrite(what->at, 1, what->length, file) != what->length || fclose(file) != 0) {
 		fprintf(stderr, "host: %s cannot be written\n", path);
 		exit(2);
@@ -695,26 +957,35 @@ static void store(const char *path, const struct bytes *what)
 
 int main(int argc, char **argv)
 {
-	if (argc != 1 && argc != 4) {
-		fprintf(stderr, "use: host_test [LISTING CRATE STRAIGHT]\n");
+	static const char *const modes[MODES] = {"crate", "straight", "target"};
+	unsigned which, mode;
+
+	if (argc > 2) {
+		fprintf(stderr, "use: host_test [STEM]\n");
 		return 2;
 	}
-	append(&listing, "\1", 1);
+	append(&listing[0], "\1", 1);
+	append(&listing[1], "\2", 1);
 	lines_to_compare();
 	body_lengths();
+	lengths_of_versions();
 	refusals();
 	vector_records();
+	targets();
 	small_listings();
+	long_frames();
 	the_same_as_one_listing();
 	the_longest_listing();
-	if (argc == 4) {
-		store(argv[1], &listing);
-		store(argv[2], &lines[0]);
-		store(argv[3], &lines[1]);
+	for (which = 0; which < 2; which++) {
+		if (argc == 2)
+			store(argv[1], which + 1, "lst", &listing[which]);
+		free(listing[which].at);
+		for (mode = 0; mode < MODES; mode++) {
+			if (argc == 2)
+				store(argv[1], which + 1, modes[mode], &lines[which][mode]);
+			free(lines[which][mode].at);
+		}
 	}
-	free(listing.at);
-	free(lines[0].at);
-	free(lines[1].at);
 	if (failures > 0) {
 		printf("host: %lu checks, %lu fail\n", checks, failures);
 		return 1;

@@ -3,8 +3,9 @@
  *
  * The calls run in a thread whose stack is filled with one byte value before; what is changed below the
  * caller after them was used. The calls go through each opcode with each pair of kinds (of VPSCATTER with a
- * mask between the two), several sizes, both modes and a buffer without room, with exactly enough and with
- * plenty, first one by one and then as one listing. The last line is `stack: ..` with the numbers; exit status 1 if one is above the header's.
+ * mask between the two), several sizes, both versions, all modes and a buffer without room, with exactly enough
+ * and with plenty, first one by one and then as one listing of each version. The last line is `stack: ..` with
+ * the numbers; exit status 1 if one is above the header's.
  */
 #define _XOPEN_SOURCE 700
 #include <pthread.h>
@@ -24,12 +25,15 @@ enum {
 	MASKED = 17,     /* the first kind with a mask */
 	K1 = 73,
 	SIZES = 2,
-	BODY = 33,       /* two operands of six bytes, one of five, and two bytes */
+	BODY = 37,       /* in version 2: two operands of six bytes, one of five, and two bytes */
+	START = 4,       /* the bytes of the start address, which stands after the first four */
+	VERSIONS = 2,
+	MODES = 3,
 	BODIES = OPCODES * (KINDS + 1) * (KINDS + 1) * SIZES
 };
 
-static uint8_t *stack, *listing, *text;
-static size_t listing_len, text_len;
+static uint8_t *stack, *listing[VERSIONS], *text;
+static size_t listing_len[VERSIONS], text_len;
 static unsigned step;
 static uintptr_t caller;
 
@@ -58,8 +62,8 @@ static size_t operand(uint8_t *at, unsigned kind, unsigned number, int extended)
 	return 6;
 }
 
-/* Body `which` of BODIES; its length. */
-static size_t body(uint8_t *at, unsigned which)
+/* Body `which` of BODIES in this version; its length. */
+static size_t body(uint8_t *at, unsigned which, unsigned version)
 {
 	static const uint8_t sizes[SIZES] = {8, 10};
 	unsigned opcode = which / SIZES / (KINDS + 1) / (KINDS + 1);
@@ -86,6 +90,11 @@ static size_t body(uint8_t *at, unsigned which)
 		at[length++] = (uint8_t)(which % 4);
 		at[length++] = 2;
 	}
+	if (version == MASM_VERSION_2) {
+		memmove(at + 4 + START, at + 4, length - 4);
+		memset(at + 4, 0xFE, START);
+		length += START;
+	}
 	return length;
 }
 
@@ -93,35 +102,38 @@ static void *records(void *nothing)
 {
 	static uint8_t bytes[BODY];
 	static uint8_t line[MASM_LINE_MAX];
-	static unsigned which, mode;
+	static unsigned which, version, mode;
 	static size_t length;
 	static uint64_t returned;
 	volatile uint8_t mark = 0;
 
 	caller = (uintptr_t)&mark;
 	for (which = 0; which < BODIES; which += step)
-		for (mode = 0; mode < 2; mode++) {
-			length = body(bytes, which);
-			returned = masm_print_record(bytes, length, mode, line, 0);
-			masm_print_record(bytes, length, mode, line, sizeof line);
-			if (masm_answer(returned) == MASM_NO_ROOM)
-				masm_print_record(bytes, length, mode, line, masm_length(returned));
+		for (version = 1; version <= VERSIONS; version++) {
+			length = body(bytes, which, version);
+			for (mode = 0; mode < MODES; mode++) {
+				returned = masm_print_record(bytes, length, version, mode, line, 0);
+				masm_print_record(bytes, length, version, mode, line, sizeof line);
+				if (masm_answer(returned) == MASM_NO_ROOM)
+					masm_print_record(bytes, length, version, mode, line, masm_length(returned));
+			}
 		}
 	return nothing;
 }
 
 static void *listings(void *nothing)
 {
-	static unsigned mode;
+	static unsigned which, mode;
 	static uint64_t returned;
 	volatile uint8_t mark = 0;
 
 	caller = (uintptr_t)&mark;
-	for (mode = 0; mode < 2; mode++) {
-		returned = masm_print_listing(listing, listing_len, mode, text, 0);
-		masm_print_listing(listing, listing_len, mode, text, masm_length(returned));
-		masm_print_listing(listing, listing_len, mode, text, text_len);
-	}
+	for (which = 0; which < VERSIONS; which++)
+		for (mode = 0; mode < MODES; mode++) {
+			returned = masm_print_listing(listing[which], listing_len[which], mode, text, 0);
+			masm_print_listing(listing[which], listing_len[which], mode, text, masm_length(returned));
+			masm_print_listing(listing[which], listing_len[which], mode, text, text_len);
+		}
 	return nothing;
 }
 
@@ -146,23 +158,30 @@ static size_t taken(void *(*function)(void *))
 int main(void)
 {
 	size_t record, whole;
-	unsigned which;
+	unsigned which, version;
 
 	stack = malloc(ROOM);
-	listing = malloc(1 + (size_t)BODIES * (2 + BODY));
+	for (version = 1; version <= VERSIONS; version++)
+		listing[version - 1] = malloc(1 + (size_t)BODIES * (2 + BODY));
 	text_len = (size_t)BODIES * (MASM_LINE_MAX + 1);
 	text = malloc(text_len);
-	if (stack == NULL || listing == NULL || text == NULL) {
+	if (stack == NULL || listing[0] == NULL || listing[1] == NULL || text == NULL) {
 		fputs("stack: there is no memory for the test\n", stderr);
 		return 2;
 	}
-	listing[listing_len++] = 1;
-	for (which = 0; which < BODIES; which++) {
-		size_t length = body(listing + listing_len + 2, which);
+	for (version = 1; version <= VERSIONS; version++) {
+		uint8_t *at = listing[version - 1];
+		size_t end = 0;
 
-		listing[listing_len] = 0;
-		listing[listing_len + 1] = (uint8_t)length;
-		listing_len += 2 + length;
+		at[end++] = (uint8_t)version;
+		for (which = 0; which < BODIES; which++) {
+			size_t length = body(at + end + 2, which, version);
+
+			at[end] = 0;
+			at[end + 1] = (uint8_t)length;
+			end += 2 + length;
+		}
+		listing_len[version - 1] = end;
 	}
 
 	/* some before, so that what a dynamic linker does at a first call is not counted */
@@ -174,7 +193,8 @@ int main(void)
 	printf("stack: a record takes %lu bytes, a listing %lu; the header says at most %d\n",
 	       (unsigned long)record, (unsigned long)whole, SAID);
 	free(stack);
-	free(listing);
+	free(listing[0]);
+	free(listing[1]);
 	free(text);
 	return record > SAID || whole > SAID;
 }

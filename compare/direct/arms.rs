@@ -3,6 +3,7 @@
 use crate::line::Line;
 use crate::record::{Operand, Record};
 use crate::tables::{label, NAMES, ROUNDINGS};
+use crate::TARGET;
 
 #[derive(Clone, Copy, PartialEq)]
 pub(crate) enum Arm {
@@ -233,18 +234,23 @@ pub(crate) fn print<const EXTENDED: bool>(record: &Record, arm: Arm, mode: u32, 
         Branch => {
             line.word(" ");
             let length = record.length as i32;
-            let worded = mode == 1 && !matches!(record.opcode, CALL | XBEGIN);
-            if a.kind == 3 {
+            let worded = mode > 0 && !matches!(record.opcode, CALL | XBEGIN);
+            let sum = if a.kind == 3 {
                 if worded {
                     line.word("short ");
                 }
                 let whole = record.imm as i8 as i32 + length;
-                line.branch(if mode == 0 { whole as i8 as i32 } else { whole });
+                if mode == 0 { whole as i8 as i32 } else { whole }
             } else {
                 let sum = (record.imm as i32).wrapping_add(length);
                 if worded || mode == 0 && (128..256).contains(&sum) {
                     line.word("near ptr ");
                 }
+                sum
+            };
+            if mode == TARGET {
+                line.target(record.start.wrapping_add_signed(sum));
+            } else {
                 line.branch(sum);
             }
         }

@@ -14,9 +14,12 @@ mod record;
 mod tables;
 
 use line::Line;
-use record::Record;
+use record::{Front, Record};
 
 const MAX_LISTING: usize = 16_777_216;
+
+/// The mode that shows targets, for which a record needs a start address.
+const TARGET: u32 = 2;
 
 /// The longest line is 257 bytes; a line's buffer has room to spare.
 const LINE: usize = 320;
@@ -25,18 +28,33 @@ fn answer(number: u64, length: usize) -> u64 {
     number << 32 | length as u64
 }
 
-/// The line in `line`'s first bytes, or the answer that refuses it.
-fn print(body: &[u8], mode: u32, line: &mut [u8; LINE]) -> Result<usize, u64> {
-    match Record::read_plain(body) {
+/// The line in `line`'s first bytes, or the answer that refuses it. The version is 1 or 2, and the mode up to 2.
+#[inline]
+fn print(version: u32, body: &[u8], mode: u32, line: &mut [u8; LINE]) -> Result<usize, u64> {
+    if version == 1 && mode == TARGET {
+        return Err(1);
+    }
+    let (&front, behind) = body.split_first_chunk::<4>().ok_or(2u64)?;
+    if version == 1 {
+        return print_fields(front, 0, behind, mode, line);
+    }
+    let (&start, rest) = behind.split_first_chunk::<4>().ok_or(2u64)?;
+    print_fields(front, u32::from_be_bytes(start), rest, mode, line)
+}
+
+/// The fields are the same in both versions, and so is the code.
+#[inline(never)]
+fn print_fields(front: Front, start: u32, rest: &[u8], mode: u32, line: &mut [u8; LINE]) -> Result<usize, u64> {
+    match Record::read_plain(front, start, rest) {
         Some(record) => print_read::<false>(&record, mode, line),
-        None => print_any(body, mode, line),
+        None => print_any(front, start, rest, mode, line),
     }
 }
 
 #[cold]
 #[inline(never)]
-fn print_any(body: &[u8], mode: u32, line: &mut [u8; LINE]) -> Result<usize, u64> {
-    print_read::<true>(&Record::read(body)?, mode, line)
+fn print_any(front: Front, start: u32, rest: &[u8], mode: u32, line: &mut [u8; LINE]) -> Result<usize, u64> {
+    print_read::<true>(&Record::read(front, start, rest)?, mode, line)
 }
 
 /// Plain records have code of their own, which asks for no masks, counts and tails: so extended ones cost them nothing.
@@ -48,18 +66,18 @@ fn print_read<const EXTENDED: bool>(record: &Record, mode: u32, line: &mut [u8; 
     Ok(line.at)
 }
 
-pub fn print_record(body: &[u8], mode: u32, text: &mut [u8]) -> u64 {
-    if mode > 1 {
+pub fn print_record(version: u32, body: &[u8], mode: u32, text: &mut [u8]) -> u64 {
+    if mode > TARGET || version.wrapping_sub(1) > 1 {
         return answer(1, 0);
     }
     if let Some(line) = text.first_chunk_mut::<LINE>() {
-        return match print(body, mode, line) {
+        return match print(version, body, mode, line) {
             Ok(length) => answer(0, length),
             Err(refused) => answer(refused, 0),
         };
     }
     let mut line = [0; LINE];
-    match print(body, mode, &mut line) {
+    match print(version, body, mode, &mut line) {
         Ok(length) if length <= text.len() => {
             text[..length].copy_from_slice(&line[..length]);
             answer(0, length)
@@ -70,7 +88,7 @@ pub fn print_record(body: &[u8], mode: u32, text: &mut [u8]) -> u64 {
 }
 
 pub fn print_listing(listing: &[u8], mode: u32, text: &mut [u8]) -> u64 {
-    if mode > 1 {
+    if mode > TARGET {
         return answer(1, 0);
     }
     if listing.len() > MAX_LISTING {
@@ -90,9 +108,9 @@ pub fn print_listing(listing: &[u8], mode: u32, text: &mut [u8]) -> u64 {
 /// Writes the lines, or only counts their bytes.
 fn write_listing(listing: &[u8], mode: u32, mut text: Option<&mut [u8]>) -> usize {
     let mut at = 0;
-    let mut rest = match listing.split_first() {
+    let (version, mut rest) = match listing.split_first() {
         None => return put(&mut text, at, b"; cut\n"),
-        Some((1, rest)) => rest,
+        Some((&version @ (1 | 2), rest)) => (version as u32, rest),
         Some(_) => return put(&mut text, at, b"; version\n"),
     };
     while !rest.is_empty() {
@@ -106,7 +124,7 @@ fn write_listing(listing: &[u8], mode: u32, mut text: Option<&mut [u8]>) -> usiz
         let room = text.as_deref_mut().and_then(|text| text.get_mut(at..at + LINE + 1));
         let refused = match room {
             // straight into the text where a whole line is sure to fit
-            Some(room) => match print(body, mode, room.first_chunk_mut().expect("a line fits")) {
+            Some(room) => match print(version, body, mode, room.first_chunk_mut().expect("a line fits")) {
                 Ok(length) => {
                     room[length] = b'\n';
                     at += length + 1;
@@ -116,7 +134,7 @@ fn write_listing(listing: &[u8], mode: u32, mut text: Option<&mut [u8]>) -> usiz
             },
             None => {
                 let mut line = [0; LINE];
-                match print(body, mode, &mut line) {
+                match print(version, body, mode, &mut line) {
                     Ok(length) => {
                         at = put(&mut text, at, &line[..length]);
                         at = put(&mut text, at, b"\n");

@@ -43,14 +43,21 @@ impl<const EXTENDED: bool> Line<'_, EXTENDED> {
         }
     }
 
+    /// So many digits and h, with a 0 in front of a letter.
     #[inline]
-    fn absolute(&mut self, number: u32, count: u32) {
-        self.byte(b'[');
+    fn address(&mut self, number: u32, count: u32) {
         if number >> (4 * (count - 1)) > 9 {
             self.byte(b'0');
         }
         self.digits(number, count);
-        self.word("h]");
+        self.byte(b'h');
+    }
+
+    #[inline]
+    fn absolute(&mut self, number: u32, count: u32) {
+        self.byte(b'[');
+        self.address(number, count);
+        self.byte(b']');
     }
 
     #[inline]
@@ -66,6 +73,12 @@ impl<const EXTENDED: bool> Line<'_, EXTENDED> {
     pub(crate) fn branch(&mut self, sum: i32) {
         self.word(if sum < 0 { "$-" } else { "$+" });
         self.numeral(sum.unsigned_abs());
+    }
+
+    /// Where a branch goes.
+    #[inline]
+    pub(crate) fn target(&mut self, target: u32) {
+        self.address(target, 8);
     }
 
     #[inline]

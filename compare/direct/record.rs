@@ -71,6 +71,8 @@ pub(crate) struct Record {
     /// bit 6, the broadcast, in extended records alone
     pub(crate) flags: u8,
     pub(crate) length: u8,
+    /// 0 in version 1, which has none
+    pub(crate) start: u32,
     pub(crate) mem_size: u8,
     pub(crate) imm: u32,
     pub(crate) disp: u32,
@@ -85,17 +87,24 @@ pub(crate) struct Record {
 const EXTENDED: u16 = 154;
 const OPCODES: u16 = 176;
 
+/// The front of a body: opcode, flags and length. In version 2 the start address follows it.
+pub(crate) type Front = [u8; 4];
+
+/// What follows these and stands before the operands: mem_size, imm, disp and the count.
+type Head = [u8; 10];
+
 impl Record {
     #[inline]
-    fn of(head: &[u8; 14], operands: [Operand; 4], length_bits: u8, tail: u8) -> Record {
+    fn of(front: Front, start: u32, head: &Head, operands: [Operand; 4], length_bits: u8, tail: u8) -> Record {
         Record {
-            opcode: head[1],
-            flags: head[2],
-            length: head[3],
-            mem_size: head[4],
-            imm: u32::from_be_bytes([head[5], head[6], head[7], head[8]]),
-            disp: u32::from_be_bytes([head[9], head[10], head[11], head[12]]),
-            count: head[13],
+            opcode: front[1],
+            flags: front[2],
+            length: front[3],
+            start,
+            mem_size: head[0],
+            imm: u32::from_be_bytes([head[1], head[2], head[3], head[4]]),
+            disp: u32::from_be_bytes([head[5], head[6], head[7], head[8]]),
+            count: head[9],
             operands,
             length_bits,
             tail,
@@ -104,14 +113,14 @@ impl Record {
 
     /// A record that is neither extended nor refused with 2 or 3, as most are.
     #[inline]
-    pub(crate) fn read_plain(body: &[u8]) -> Option<Record> {
-        let (head, slots) = body.split_first_chunk::<14>()?;
-        let opcode = u16::from_be_bytes([head[0], head[1]]);
-        if slots.len() != 5 * head[13] as usize
+    pub(crate) fn read_plain(front: Front, start: u32, rest: &[u8]) -> Option<Record> {
+        let (head, slots) = rest.split_first_chunk::<10>()?;
+        let opcode = u16::from_be_bytes([front[0], front[1]]);
+        if slots.len() != 5 * head[9] as usize
             || opcode >= EXTENDED
-            || head[2] >= 64
-            || head[3].wrapping_sub(1) >= 15
-            || head[13] > 4
+            || front[2] >= 64
+            || front[3].wrapping_sub(1) >= 15
+            || head[9] > 4
         {
             return None;
         }
@@ -129,14 +138,14 @@ impl Record {
                 return None;
             }
         }
-        Some(Record::of(head, operands, 0, 0))
+        Some(Record::of(front, start, head, operands, 0, 0))
     }
 
     /// Any record: the length by its kinds, then the fields.
-    pub(crate) fn read(body: &[u8]) -> Result<Record, u64> {
-        let (head, slots) = body.split_first_chunk::<14>().ok_or(2u64)?;
-        let opcode = u16::from_be_bytes([head[0], head[1]]);
-        let count = head[13];
+    pub(crate) fn read(front: Front, start: u32, rest: &[u8]) -> Result<Record, u64> {
+        let (head, slots) = rest.split_first_chunk::<10>().ok_or(2u64)?;
+        let opcode = u16::from_be_bytes([front[0], front[1]]);
+        let count = head[9];
         let mut extended = (EXTENDED..OPCODES).contains(&opcode);
         let mut end = 0;
         for _ in 0..count {
@@ -152,7 +161,7 @@ impl Record {
         }
         let (length_bits, tail) = if extended { (slots[end], slots[end + 1]) } else { (0, 0) };
         let (flags, registers) = if extended { (128, 80) } else { (64, 64) };
-        if opcode >= OPCODES || head[2] >= flags || !(1..16).contains(&head[3]) || count > 4 || length_bits > 3 || tail > 2 {
+        if opcode >= OPCODES || front[2] >= flags || !(1..16).contains(&front[3]) || count > 4 || length_bits > 3 || tail > 2 {
             return Err(3);
         }
         let mut operands = [Operand::NONE; 4];
@@ -175,6 +184,6 @@ impl Record {
             }
             at += 5 + masked as usize;
         }
-        Ok(Record::of(head, operands, length_bits, tail))
+        Ok(Record::of(front, start, head, operands, length_bits, tail))
     }
 }

@@ -3,11 +3,12 @@
 //! The hosts come in the variable BENCH_HOSTS, one to a line: a label, a tab, a command. Each is the
 //! C host (`host/driver.c`) over one printer, so all are timed by the same code: one call prints the
 //! whole listing from memory to memory, with room to spare and with exactly the room that the text needs
-//! (then the printer measures first); or a call prints each record. The programs come in BENCH_PROGRAMS in the same way and are
-//! timed as processes, from a file to nowhere. So do the programs that compare two listings, in
-//! BENCH_COMPARERS; they get the listing and a copy of it. BENCH_ZYDIS is `timing/zydis.c`'s program, or empty; it
-//! times itself. Times are processor time, so that what else runs on the machine counts as little as
-//! can be.
+//! (then the printer measures first); or a call prints each record. The programs come in BENCH_PROGRAMS
+//! in the same way and are timed as processes, from a file to nowhere. So do the programs that compare
+//! two listings, in BENCH_COMPARERS; they get the listing and a copy of it. The same records as a listing
+//! of version 2 are printed in mode 2 by the hosts that know it, by one call with room to spare, and by
+//! the programs in BENCH_TARGETS. BENCH_ZYDIS is `timing/zydis.c`'s program, or empty; it times itself.
+//! Times are processor time, so that what else runs on the machine counts as little as can be.
 
 mod chart;
 mod mix;
@@ -26,19 +27,40 @@ const PASSES: usize = 3;
 /// more than the longest line
 const RECORD_ROOM: u64 = 512;
 
+/// What is printed: a listing, the mode, the lines, and the file that has the listing.
+struct Task {
+    listing: Vec<u8>,
+    mode: u32,
+    text: Vec<u8>,
+    file: String,
+}
+
+impl Task {
+    fn of(version: u32, mode: u32, file: String) -> Task {
+        let listing = mix::listing(version, RECORDS, SEED);
+        let mut text = Sink::default();
+        listing_into(&listing, mode, &mut text).expect("000 prints what document 01 accepts");
+        std::fs::write(&file, &listing).expect("the folder can be written");
+        let (bytes, out) = (listing.len(), text.0.len());
+        println!("version {version}, mode {mode}: {RECORDS} records, {bytes} bytes in, {out} bytes out");
+        Task { listing, mode, text: text.0, file }
+    }
+
+    /// Room for 321 bytes a record and for nine times the listing, so that no printer measures first.
+    fn ample(&self) -> usize {
+        (321 * RECORDS).max(9 * self.listing.len())
+    }
+}
+
 fn main() {
     let folder = std::env::args().nth(1).expect("use: bench FOLDER");
-    let listing = mix::listing(RECORDS, SEED);
-    let mut text = Sink::default();
-    listing_into(&listing, 0, &mut text).expect("000 prints what document 01 accepts");
-    println!("{RECORDS} records, {} bytes in, {} bytes out, {PASSES} times {ROUNDS} rounds", listing.len(), text.0.len());
-    let input = format!("{folder}/listing");
-    for file in [&input, &copy_of(&input)] {
-        std::fs::write(file, &listing).expect("the folder can be written");
-    }
+    let plain = Task::of(1, 0, format!("{folder}/listing"));
+    let targets = Task::of(2, 2, format!("{folder}/listing-2"));
+    std::fs::write(copy_of(&plain.file), &plain.listing).expect("the folder can be written");
+    println!("{PASSES} times {ROUNDS} rounds");
     let mut rows: Vec<Row> = Vec::new();
     for pass in 0..PASSES {
-        for (at, row) in one_pass(&listing, &text.0, &input).into_iter().enumerate() {
+        for (at, row) in one_pass(&plain, &targets).into_iter().enumerate() {
             if pass == 0 {
                 rows.push(row);
             } else {
@@ -53,30 +75,33 @@ fn main() {
 }
 
 /// Each row once.
-fn one_pass(listing: &[u8], text: &[u8], input: &str) -> Vec<Row> {
+fn one_pass(plain: &Task, targets: &Task) -> Vec<Row> {
     let mut rows = Vec::new();
-    // room for 321 bytes a record and for nine times the listing, so that no printer measures first
-    let ample = (321 * RECORDS).max(9 * listing.len());
     let hosts = pairs("BENCH_HOSTS");
     for (label, command) in &hosts {
-        rows.push(time_host(label, command, listing, text, ample));
+        rows.push(time_host(label, command, plain, plain.ample()));
     }
     let measured = |label: &str| label.starts_with("the archive") || label == "direct Rust";
     let measured: Vec<_> = hosts.iter().filter(|(label, _)| measured(label)).collect();
     for (label, command) in &measured {
-        rows.push(time_host(&format!("{label}, no room to spare"), command, listing, text, text.len()));
+        rows.push(time_host(&format!("{label}, no room to spare"), command, plain, plain.text.len()));
     }
     for (words, room) in [("a record a call", RECORD_ROOM), ("a record a call, no room to spare", 0)] {
         for (label, command) in &measured {
-            rows.push(time_records(&format!("{label}, {words}"), command, listing, text.len() - RECORDS, room));
+            rows.push(time_records(&format!("{label}, {words}"), command, plain, room));
         }
     }
-    rows.extend(time_zydis(&command("BENCH_ZYDIS"), input));
-    for (label, command) in pairs("BENCH_PROGRAMS") {
-        rows.push(time_program(&label, &command, listing, text, input));
+    for (label, command) in hosts.iter().filter(|(_, command)| knows_targets(command)) {
+        rows.push(time_host(&format!("{label}, version 2 in mode 2"), command, targets, targets.ample()));
+    }
+    rows.extend(time_zydis(&command("BENCH_ZYDIS"), &plain.file));
+    for (variable, task) in [("BENCH_PROGRAMS", plain), ("BENCH_TARGETS", targets)] {
+        for (label, command) in pairs(variable) {
+            rows.push(time_program(&label, &command, task));
+        }
     }
     for (label, command) in pairs("BENCH_COMPARERS") {
-        rows.push(time_comparer(&label, &command, input));
+        rows.push(time_comparer(&label, &command, &plain.file));
     }
     rows
 }
@@ -91,22 +116,29 @@ fn pairs(variable: &str) -> Vec<(String, String)> {
     words.lines().filter_map(pair).collect()
 }
 
+/// Whether a host prints version 2 in mode 2: one of an earlier state, set beside this one, does not.
+fn knows_targets(command: &str) -> bool {
+    let nothing = Expected::of(0, b"", 0);
+    Host::start(command).check_listing("version 2 in mode 2", &[2], 2, 0, &nothing).is_ok()
+}
+
 /// A printer that differs is not worth timing.
-fn time_host(label: &str, command: &str, listing: &[u8], text: &[u8], room: usize) -> Row {
+fn time_host(label: &str, command: &str, task: &Task, room: usize) -> Row {
     let mut host = Host::start(command);
     let room = room as u64;
-    let expected = Expected::of(0, 0, text, room);
-    if let Err(difference) = host.check_listing("the mix", listing, 0, room, &expected) {
+    let expected = Expected::of(0, &task.text, room);
+    if let Err(difference) = host.check_listing("the mix", &task.listing, task.mode, room, &expected) {
         difference.print();
         std::process::exit(1);
     }
-    let rounds = host.time(Timed::Listing, listing, 0, room, ROUNDS).expect("the host lives");
+    let rounds = host.time(Timed::Listing, &task.listing, task.mode, room, ROUNDS).expect("the host lives");
     Row::new(label, rounds.iter().map(|&(_, took)| took as f64 / RECORDS as f64).collect())
 }
 
-/// Each record by a call of its own; `printed` are the bytes of all lines, without the newlines.
-fn time_records(label: &str, command: &str, listing: &[u8], printed: usize, room: u64) -> Row {
-    let rounds = Host::start(command).time(Timed::Records, listing, 0, room, ROUNDS).expect("the host lives");
+/// Each record by a call of its own. All lines are counted, without the newlines.
+fn time_records(label: &str, command: &str, task: &Task, room: u64) -> Row {
+    let rounds = Host::start(command).time(Timed::Records, &task.listing, task.mode, room, ROUNDS).expect("the host lives");
+    let printed = task.text.len() - RECORDS;
     assert!(rounds.iter().all(|&(bytes, _)| bytes == printed as u64), "{label}: lines are lost");
     Row::new(label, rounds.iter().map(|&(_, took)| took as f64 / RECORDS as f64).collect())
 }
@@ -130,13 +162,13 @@ fn time_zydis(command: &str, input: &str) -> Vec<Row> {
     run(ROUNDS).lines().map(row).collect()
 }
 
-fn time_program(label: &str, command: &str, listing: &[u8], text: &[u8], input: &str) -> Row {
-    let wrote = run_program(command, listing);
+fn time_program(label: &str, command: &str, task: &Task) -> Row {
+    let wrote = run_program(command, &task.listing);
     // the straight program's text differs in its branches, but has as many lines
     let lines = |text: &[u8]| text.iter().filter(|&&byte| byte == b'\n').count();
-    assert_eq!(lines(&wrote), lines(text), "{command} drops or adds lines");
+    assert_eq!(lines(&wrote), lines(&task.text), "{command} drops or adds lines");
     time_process(label, command, |process| {
-        process.stdin(File::open(input).expect("the listing is there"));
+        process.stdin(File::open(&task.file).expect("the listing is there"));
     })
 }
 

@@ -1,12 +1,14 @@
-//! Records go in, one by one; what comes out is that all agreed, or the first difference, made small.
+//! Records go in, one by one, and each gets a body of version 2; what comes out is that all agreed, or the first
+//! difference, made small.
 
-use crate::batch::{Batch, RECORDS};
+use crate::batch::{Batch, View, MODES, RECORDS};
 use crate::difference::Difference;
 use crate::host::{calls, Call, Expected, Host};
-use crate::programs::{run_program, Found, Program};
+use crate::programs::{name, run_program, Found, Program};
 use crate::shrink::shrink;
 use crate::{command, hex};
-use oracle::{line_into, listing_into, name_of, Sink, OPCODES};
+use oracle::{line_into, listing_into, name_of, with_start, Sink, OPCODES, VERSIONS};
+use records::Random;
 use std::sync::mpsc::{sync_channel, Receiver, SyncSender};
 use std::sync::Arc;
 use std::thread::JoinHandle;
@@ -15,18 +17,41 @@ pub struct Checker {
     batch: Batch,
     host: Option<SyncSender<Arc<Batch>>>,
     checked: JoinHandle<Result<[u64; 8], Difference>>,
-    programs: [Program; 2],
-    commands: [String; 3],
+    programs: Vec<(View, Program)>,
+    commands: Commands,
+    /// for the start addresses
+    random: Random,
     counts: Counts,
     stopped: bool,
+}
+
+/// The commands that the scripts set up.
+#[derive(Clone)]
+struct Commands {
+    host: String,
+    /// the listing programs, by mode
+    programs: [String; MODES as usize],
+}
+
+impl Commands {
+    fn found() -> Commands {
+        Commands {
+            host: command("COMPARE_HOST"),
+            programs: ["COMPARE_LIST_CRATE", "COMPARE_LIST_STRAIGHT", "COMPARE_LIST_TARGET"].map(command),
+        }
+    }
+
+    fn program(&self, mode: u32) -> &str {
+        &self.programs[mode as usize]
+    }
 }
 
 /// What was compared.
 #[derive(Clone)]
 pub struct Counts {
     pub records: usize,
-    /// records by answer (0, 2 to 5 and 7), in each mode
-    pub answers: [[u64; 8]; 2],
+    /// records by answer (any but 6), by version and mode
+    pub answers: [[[u64; 8]; MODES as usize]; 2],
     /// calls of masm_print_record by the answer that came
     pub calls: [u64; 8],
     /// records that were printed, records in all, by opcode number
@@ -36,10 +61,11 @@ pub struct Counts {
 impl Counts {
     pub fn print(&self, opcodes: bool) {
         println!("records  {}", self.records);
-        for (mode, answers) in self.answers.iter().enumerate() {
+        for View { version, mode } in View::all() {
+            let answers = self.answers[version as usize - 1][mode as usize];
             let parts: Vec<String> =
-                [0, 2, 3, 4, 5, 7].iter().map(|&answer| format!("{answer}: {}", answers[answer])).collect();
-            println!("mode {mode}   by answer  {}", parts.join("  "));
+                [0, 1, 2, 3, 4, 5, 7].iter().map(|&answer| format!("{answer}: {}", answers[answer])).collect();
+            println!("version {version}, mode {mode}   by answer  {}", parts.join("  "));
         }
         let parts: Vec<String> =
             self.calls.iter().enumerate().map(|(answer, count)| format!("{answer}: {count}")).collect();
@@ -54,23 +80,24 @@ impl Counts {
 }
 
 impl Checker {
-    /// Over the commands that the scripts set up.
-    pub fn start() -> Checker {
+    /// Over the commands that the scripts set up. The seed is that of the start addresses.
+    pub fn start(seed: u64) -> Checker {
         std::panic::set_hook(Box::new(|_| {}));
-        let commands =
-            ["COMPARE_HOST", "COMPARE_LIST_CRATE", "COMPARE_LIST_STRAIGHT"].map(command);
+        let commands = Commands::found();
         let (host, batches) = sync_channel(4);
-        let mut archive = Host::start(&commands[0]);
+        let mut archive = Host::start(&commands.host);
         let checked = std::thread::spawn(move || check(&mut archive, batches));
         Checker {
             batch: Batch::new(0),
             host: Some(host),
             checked,
-            programs: [Program::start(&commands[1], 0), Program::start(&commands[2], 1)],
+            programs: View::all().map(|view| (view, Program::start(commands.program(view.mode), view))).collect(),
             commands,
+            // not the numbers that the bodies are made of
+            random: Random::new(!seed),
             counts: Counts {
                 records: 0,
-                answers: [[0; 8]; 2],
+                answers: Default::default(),
                 calls: [0; 8],
                 opcodes: vec![[0; 2]; OPCODES as usize],
             },
@@ -78,16 +105,23 @@ impl Checker {
         }
     }
 
-    /// True as long as more records are of use. A body has to fit a frame.
+    /// A version 1 body, and one of version 2 that is made of it by chance.
     pub fn push(&mut self, body: &[u8]) -> Result<bool, Difference> {
-        self.batch.push(body)?;
+        let located = records::located(&mut self.random, body);
+        self.push_both([body, &located])
+    }
+
+    /// A body of each version. True as long as more records are of use. A body has to fit a frame.
+    pub fn push_both(&mut self, bodies: [&[u8]; 2]) -> Result<bool, Difference> {
+        self.batch.push(bodies)?;
         let at = self.batch.len() - 1;
-        for mode in 0..2 {
-            self.counts.answers[mode][self.batch.answer(mode, at) as usize] += 1;
+        for view in View::all() {
+            let answers = &mut self.counts.answers[view.version as usize - 1][view.mode as usize];
+            answers[self.batch.answer(view, at) as usize] += 1;
         }
-        if let [high, low, ..] = body[..] {
+        if let [high, low, ..] = bodies[0][..] {
             if let Some(counts) = self.counts.opcodes.get_mut(u16::from_be_bytes([high, low]) as usize) {
-                counts[0] += (self.batch.answer(0, at) == 0) as u64;
+                counts[0] += (self.batch.answer(View { version: 1, mode: 0 }, at) == 0) as u64;
                 counts[1] += 1;
             }
         }
@@ -105,7 +139,7 @@ impl Checker {
         }
         let batch = Arc::new(batch);
         let host = self.host.as_ref().is_some_and(|host| host.send(batch.clone()).is_ok());
-        let programs = self.programs.iter().all(|program| program.push(&batch));
+        let programs = self.programs.iter().all(|(_, program)| program.push(&batch));
         self.stopped |= !(host && programs);
     }
 
@@ -114,15 +148,14 @@ impl Checker {
         self.send();
         drop(self.host.take());
         let archive = self.checked.join().expect("the host's thread does not panic");
-        let [crate_lines, straight_lines] = self.programs;
-        let programs = [crate_lines.finish(), straight_lines.finish()];
+        let programs: Vec<_> = self.programs.into_iter().map(|(view, program)| (view, program.finish())).collect();
         self.counts.calls = match archive {
             Ok(calls) => calls,
-            Err(difference) => return Err(smaller_record(&self.commands[0], difference)),
+            Err(difference) => return Err(smaller_record(&self.commands.host, difference)),
         };
-        for (mode, outcome) in programs.into_iter().enumerate() {
+        for (view, outcome) in programs {
             if let Err(found) = outcome {
-                return Err(smaller_listing(&self.commands[1 + mode], mode as u32, found));
+                return Err(smaller_listing(self.commands.program(view.mode), view, found));
             }
         }
         small_listings(&self.commands)?;
@@ -141,23 +174,23 @@ fn check(host: &mut Host, batches: Receiver<Arc<Batch>>) -> Result<[u64; 8], Dif
 }
 
 fn check_records(host: &mut Host, batch: &Batch, counts: &mut [u64; 8]) -> Result<(), Difference> {
-    let length = |mode, at| if batch.answer(mode, at) == 0 { batch.line(mode, at).len() } else { 0 };
-    let all: Vec<Vec<Call>> = (0..batch.len())
-        .map(|at| {
-            let answers = [batch.answer(0, at), batch.answer(1, at)];
-            calls(answers, [length(0, at), length(1, at)], batch.first + at)
-        })
+    let said = |at| {
+        move |view| {
+            let answer = batch.answer(view, at);
+            (answer, if answer == 0 { batch.line(view, at).len() } else { 0 })
+        }
+    };
+    // each record twice, as a body of either version
+    let all: Vec<(u32, usize, Vec<Call>)> = (0..batch.len())
+        .flat_map(|at| VERSIONS.map(|version| (version, at, calls(version, batch.first + at, said(at)))))
         .collect();
-    let asked = host.send((0..batch.len()).map(|at| (batch.body(at), &all[at][..])));
-    for at in 0..batch.len() {
-        for &call in &all[at] {
-            let mode = call.mode.min(1) as usize;
-            let expected = Expected::of(
-                call.mode,
-                batch.answer(mode, at),
-                batch.line(mode, at),
-                call.room as u64,
-            );
+    let asked = host.send(all.iter().map(|(version, at, calls)| (batch.body(*version, *at), &calls[..])));
+    for (version, at, calls) in &all {
+        for &call in calls {
+            let expected = match call.view() {
+                Some(view) => Expected::of(batch.answer(view, *at), batch.line(view, *at), call.room as u64),
+                None => Expected::refusal(1),
+            };
             let outcome = match asked {
                 Ok(()) => host.receive(&expected),
                 Err(_) => Err(std::io::ErrorKind::BrokenPipe.into()),
@@ -166,8 +199,8 @@ fn check_records(host: &mut Host, batch: &Batch, counts: &mut [u64; 8]) -> Resul
                 Ok(None) => counts[(expected.returned >> 32) as usize] += 1,
                 Ok(Some((expected, found))) => {
                     return Err(Difference {
-                        place: format!("masm_print_record, mode {}, room {}", call.mode, call.room),
-                        body: Some(batch.body(at).to_vec()),
+                        place: call.place(),
+                        body: Some(batch.body(*version, *at).to_vec()),
                         expected,
                         found,
                     })
@@ -182,11 +215,12 @@ fn check_records(host: &mut Host, batch: &Batch, counts: &mut [u64; 8]) -> Resul
 /// The host died somewhere in a batch: asks record by record where.
 fn died(host: &mut Host, batch: &Batch) -> Difference {
     host.restart();
-    for at in 0..batch.len() {
-        match host.check_record(batch.body(at)) {
+    for (at, version) in (0..batch.len()).flat_map(|at| VERSIONS.map(|version| (at, version))) {
+        let body = batch.body(version, at);
+        match host.check_record(version, body) {
             Ok(None) => {}
             Ok(Some(difference)) => return difference,
-            Err(complaint) => return Difference::complaint(batch.body(at), &complaint),
+            Err(complaint) => return Difference::complaint(body, &complaint),
         }
     }
     Difference {
@@ -197,26 +231,29 @@ fn died(host: &mut Host, batch: &Batch) -> Difference {
     }
 }
 
-/// A batch as a listing: whole or cut, with exactly enough room, one byte less, none and plenty.
+/// A batch as a listing of each version: whole or cut, with exactly enough room, one byte less, none and plenty; and
+/// with modes and version bytes that are none.
 fn check_listing(host: &mut Host, batch: &Batch, number: usize) -> Result<(), Difference> {
-    let mut listing = vec![1];
-    listing.extend(batch.frames());
     let cut: &[u8] = [&[][..], &[0], &[0, 14, 0], &[255, 255]][number % 4];
-    listing.extend_from_slice(cut);
     let what = format!("the records from {} on", batch.first);
-    for mode in 0..2 {
-        let mut text = batch.text(mode).to_vec();
-        if !cut.is_empty() {
-            text.extend_from_slice(b"; cut\n");
+    for version in VERSIONS {
+        let mut listing = [&[version as u8], &batch.frames(version)[..], cut].concat();
+        for mode in 0..MODES {
+            let mut text = batch.text(View { version, mode }).to_vec();
+            if !cut.is_empty() {
+                text.extend_from_slice(b"; cut\n");
+            }
+            let length = text.len() as u64;
+            for room in [length, length - 1, 0, length + 1000] {
+                host.check_listing(&what, &listing, mode, room, &Expected::of(0, &text, room))?;
+            }
         }
-        let length = text.len() as u64;
-        for room in [length, length - 1, 0, length + 1000] {
-            let expected = Expected::of(mode as u32, 0, &text, room);
-            host.check_listing(&what, &listing, mode as u32, room, &expected)?;
+        for mode in [MODES, u32::MAX] {
+            host.check_listing(&what, &listing, mode, 100, &Expected::refusal(1))?;
         }
-    }
-    for mode in [2, u32::MAX] {
-        host.check_listing(&what, &listing, mode, 100, &Expected::of(mode, 0, &[], 100))?;
+        listing[0] = [0, 3, 4, 255, 129, 130][number % 6];
+        let mode = number as u32 % MODES;
+        host.check_listing(&what, &listing, mode, 100, &Expected::of(0, b"; version\n", 100))?;
     }
     Ok(())
 }
@@ -226,26 +263,32 @@ fn smaller_record(command: &str, difference: Difference) -> Difference {
     else {
         return difference;
     };
+    let named = |version: &u32| difference.place.starts_with(&format!("masm_print_record, version {version},"));
+    // a call with a version that is none shows a body of either
+    let versions = VERSIONS.into_iter().find(named).map_or(VERSIONS.to_vec(), |version| vec![version]);
     let mut host = Host::start(command);
     let mut last = difference;
-    shrink(body, |candidate| match host.check_record(candidate) {
-        Ok(Some(found)) => {
-            last = found;
-            true
-        }
-        _ => false,
-    });
+    for version in versions {
+        shrink(version, body.clone(), |candidate| match host.check_record(version, candidate) {
+            Ok(Some(found)) => {
+                last = found;
+                true
+            }
+            _ => false,
+        });
+    }
     last
 }
 
 /// A program's difference: by one record alone if that shows it, else by the records before it.
-fn smaller_listing(command: &str, mode: u32, found: Found) -> Difference {
+fn smaller_listing(command: &str, view: View, found: Found) -> Difference {
+    let View { version, mode } = view;
     let Some((batch, at)) = found.at else {
         return found.difference;
     };
     let mut last = found.difference;
     let framed = |bodies: &[&[u8]]| {
-        let mut listing = vec![1];
+        let mut listing = vec![version as u8];
         for body in bodies {
             listing.extend((body.len() as u16).to_be_bytes());
             listing.extend_from_slice(body);
@@ -254,7 +297,7 @@ fn smaller_listing(command: &str, mode: u32, found: Found) -> Difference {
     };
     let mut alone = |body: &[u8]| {
         let mut line = Sink::default();
-        let text = match line_into(body, mode, &mut line) {
+        let text = match line_into(version, body, mode, &mut line) {
             Ok(0) => String::from_utf8_lossy(&line.0).into_owned() + "\n",
             Ok(answer) => format!("; refused {answer}\n"),
             Err(_) => return false,
@@ -264,24 +307,24 @@ fn smaller_listing(command: &str, mode: u32, found: Found) -> Difference {
             return false;
         }
         last = Difference {
-            place: format!("the listing program of mode {mode}, a listing of this record alone"),
+            place: format!("{}, a listing of this record alone", name(view)),
             body: Some(body.to_vec()),
             expected: format!("{text:?}"),
             found: format!("{:?}", String::from_utf8_lossy(&wrote)),
         };
         true
     };
-    if alone(batch.body(at)) {
-        shrink(batch.body(at).to_vec(), alone);
+    if alone(batch.body(version, at)) {
+        shrink(version, batch.body(version, at).to_vec(), alone);
         return last;
     }
     // not this record alone: how many before it does it take?
     for before in [1, 4, 16, 64, 256, 1024, 4096] {
         let from = at.saturating_sub(before);
-        let bodies: Vec<&[u8]> = (from..=at).map(|at| batch.body(at)).collect();
+        let bodies: Vec<&[u8]> = (from..=at).map(|at| batch.body(version, at)).collect();
         let listing = framed(&bodies);
         let expected: Vec<u8> =
-            (from..=at).flat_map(|at| [batch.line(mode as usize, at), b"\n"].concat()).collect();
+            (from..=at).flat_map(|at| [batch.line(view, at), b"\n"].concat()).collect();
         if run_program(command, &listing) != expected {
             last.place += &format!("; {} records of this run in a listing show it", bodies.len());
             break;
@@ -290,49 +333,94 @@ fn smaller_listing(command: &str, mode: u32, found: Found) -> Difference {
     last
 }
 
-/// Listings that are short, empty, cut or of another version, through the entry and the programs.
-fn small_listings(commands: &[String; 3]) -> Result<(), Difference> {
-    let jump: &[u8] = &[0, 0x13, 0, 0, 0, 5, 0, 0, 0, 0, 0x7b, 0, 0, 0, 0, 1, 5, 0, 0, 0, 0];
-    let mut listings: Vec<Vec<u8>> = vec![
-        vec![],
-        vec![0],
-        vec![1],
-        vec![2],
-        vec![255],
-        vec![1, 0],
-        vec![1, 0, 0],
-        vec![1, 0, 1],
-        vec![1, 0, 1, 7],
-        vec![1, 255, 255],
-        [&[0], jump].concat(),
-        [&[2], jump].concat(),
-        [&[1], jump, jump].concat(),
-    ];
-    // every cut of one record, and of one between two
-    for kept in 0..jump.len() {
-        listings.push([&[1], &jump[..kept]].concat());
-        listings.push([&[1], jump, &jump[..kept]].concat());
+/// A jump as a frame of each version.
+const JUMP: [&[u8]; 2] = [
+    &[0, 19, 0, 0, 0, 5, 0, 0, 0, 0, 0x7b, 0, 0, 0, 0, 1, 5, 0, 0, 0, 0],
+    &[0, 23, 0, 0, 0, 5, 0xff, 0xff, 0xff, 0xfe, 0, 0, 0, 0, 0x7b, 0, 0, 0, 0, 1, 5, 0, 0, 0, 0],
+];
+
+/// Listings that are short, empty, cut or of another version.
+fn short_listings() -> Vec<Vec<u8>> {
+    let mut listings: Vec<Vec<u8>> = vec![vec![]];
+    listings.extend((0..=255).map(|version| vec![version]));
+    for jump in JUMP {
+        for version in [0, 1, 2, 3, 255] {
+            listings.push([&[version], jump, jump].concat());
+        }
     }
-    let mut host = Host::start(&commands[0]);
-    for listing in listings {
-        for mode in 0..2u32 {
+    for (version, jump) in [1, 2].into_iter().zip(JUMP) {
+        for end in [&[0][..], &[0, 0], &[0, 1], &[0, 1, 7], &[0, 7, 0, 0, 0, 5, 0, 0, 0], &[255, 255]] {
+            listings.push([&[version], end].concat());
+        }
+        // every cut of one record, and of one between two
+        for kept in 0..jump.len() {
+            listings.push([&[version], &jump[..kept]].concat());
+            listings.push([&[version], jump, &jump[..kept]].concat());
+        }
+    }
+    listings
+}
+
+/// Frames around the longest right bodies and around the longest that there are, which programs may count and not
+/// hold: filled with zeros, and with as many operands as a body can say. A jump stands after each of them, and a cut
+/// long frame at the end.
+fn long_listings() -> Vec<Vec<u8>> {
+    let mut masked = vec![0; 14];
+    masked[1] = 154;
+    masked[3] = 1;
+    masked[13] = 255;
+    masked.extend([17, 0, 0, 0, 0, 73].repeat(255));
+    let mut listings = Vec::new();
+    for (version, jump) in [1, 2].into_iter().zip(JUMP) {
+        let mut listing = vec![version];
+        let mut head = if version == 1 { masked.clone() } else { with_start(&masked, 0xffff_fff0) };
+        head.resize(65_535, 0);
+        for length in (1543..1556).chain([2000, 4096, 32_767, 32_768, 65_534, 65_535]) {
+            for from in [&head, &vec![0; length]] {
+                listing.extend((length as u16).to_be_bytes());
+                listing.extend_from_slice(&from[..length]);
+                listing.extend_from_slice(jump);
+            }
+        }
+        for end in [&[][..], &[255, 255, 1], &[6, 10], &[6, 15, 0]] {
+            listings.push([&listing, end].concat());
+        }
+    }
+    listings
+}
+
+/// These through the entry and the programs, in every mode.
+fn small_listings(commands: &Commands) -> Result<(), Difference> {
+    let mut host = Host::start(&commands.host);
+    for listing in short_listings().into_iter().chain(long_listings()) {
+        let what = match listing.len() {
+            0..=200 => format!("the bytes {}", hex(&listing)),
+            length => format!("{length} bytes of long frames, starting {}", hex(&listing[..20])),
+        };
+        for mode in 0..MODES {
             let mut text = Sink::default();
             listing_into(&listing, mode, &mut text)
                 .map_err(|(complaint, body)| Difference::complaint(&body, &complaint))?;
             let length = text.0.len() as u64;
             for room in [length, length.saturating_sub(1), 0, length + 40] {
-                let expected = Expected::of(mode, 0, &text.0, room);
-                host.check_listing(&format!("the bytes {}", hex(&listing)), &listing, mode, room, &expected)?;
+                host.check_listing(&what, &listing, mode, room, &Expected::of(0, &text.0, room))?;
             }
-            let wrote = run_program(&commands[1 + mode as usize], &listing);
+            // the programs need not start anew for each unknown version
+            if let [4..=254] = listing[..] {
+                continue;
+            }
+            let wrote = run_program(commands.program(mode), &listing);
             if wrote != text.0 {
                 return Err(Difference {
-                    place: format!("the listing program of mode {mode}, the bytes {}", hex(&listing)),
+                    place: format!("the listing program of mode {mode}, {what}"),
                     body: None,
                     expected: format!("{:?}", String::from_utf8_lossy(&text.0)),
                     found: format!("{:?}", String::from_utf8_lossy(&wrote)),
                 });
             }
+        }
+        for mode in [MODES, u32::MAX] {
+            host.check_listing(&what, &listing, mode, 100, &Expected::refusal(1))?;
         }
     }
     Ok(())

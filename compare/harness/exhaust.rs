@@ -1,30 +1,48 @@
 //! `exhaust`: what can be tried whole is tried whole, through the same comparison as `run`.
 
 use harness::{command, finish, Checker, Counts, Difference, Expected, Host};
-use oracle::{listing_into, Record, Sink, Slot, MAX_LISTING, OPCODES};
+use oracle::{listing_into, Record, Sink, Slot, MAX_LISTING, OPCODES, VERSIONS};
+use records::Random;
 
 fn main() {
     finish(exhaust(), false)
 }
 
+/// Of the start addresses.
+const SEED: u64 = 205;
+
 struct Tried {
     checker: Checker,
+    /// for the start addresses of records that are not tried with certain ones
+    random: Random,
     last: usize,
     records: usize,
     going: bool,
 }
 
 impl Tried {
-    fn body(&mut self, body: &[u8]) -> Result<(), Difference> {
+    /// A body of each version.
+    fn both(&mut self, bodies: [&[u8]; 2]) -> Result<(), Difference> {
         if self.going {
-            self.going = self.checker.push(body)?;
+            self.going = self.checker.push_both(bodies)?;
             self.records += 1;
         }
         Ok(())
     }
 
+    fn body(&mut self, body: &[u8]) -> Result<(), Difference> {
+        let start = records::start(&mut self.random);
+        self.both([body, &records::located_at(body, start)])
+    }
+
     fn record(&mut self, record: &Record) -> Result<(), Difference> {
         self.body(&record.body())
+    }
+
+    /// With this start address in version 2, where the others have any.
+    fn record_at(&mut self, start: u32, record: &Record) -> Result<(), Difference> {
+        let body = record.body();
+        self.both([&body, &records::located_at(&body, start)])
     }
 
     fn say(&mut self, what: &str) {
@@ -34,8 +52,9 @@ impl Tried {
 }
 
 fn exhaust() -> Result<Counts, Difference> {
-    let mut tried = Tried { checker: Checker::start(), last: 0, records: 0, going: true };
+    let mut tried = Tried { checker: Checker::start(SEED), random: Random::new(SEED), last: 0, records: 0, going: true };
     branches(&mut tried)?;
+    targets(&mut tried)?;
     slots(&mut tried)?;
     sizes(&mut tried)?;
     heads(&mut tried)?;
@@ -124,6 +143,58 @@ fn branches(tried: &mut Tried) -> Result<(), Difference> {
         }
     }
     tried.say("branches: every 8-bit distance and length, 32-bit ones around their edges");
+    Ok(())
+}
+
+/// Start addresses around the ends of 32 bits, around the middle, and around the first that is written with a 0 in
+/// front; in steps that a length or a short distance crosses.
+fn starts() -> Vec<u32> {
+    let mut starts = Vec::new();
+    for turn in [0, 0x8000_0000, 0xa000_0000] {
+        for near in
+            [-257, -144, -143, -129, -128, -127, -16, -15, -14, -3, -2, -1, 0, 1, 2, 14, 15, 16, 127, 128, 129, 255]
+        {
+            starts.push(u32::wrapping_add_signed(turn, near));
+        }
+    }
+    starts.extend([0x0040_1000, 0x1234_5678, 0x9999_9999, 0xcafe_babe]);
+    starts
+}
+
+/// Targets: every short distance with every length at each start address, as a distance of 8 bits and of 32; of the
+/// 32-bit ones also those around the ends; every branch, and what is none.
+fn targets(tried: &mut Tried) -> Result<(), Difference> {
+    const BRANCHES: [(u16, u8); 7] = [(0, 3), (0, 5), (1, 3), (1, 5), (3, 3), (21, 5), (22, 5)];
+    for start in starts() {
+        for length in 1..=15 {
+            for distance in -128..=127i32 {
+                for (opcode, kind) in BRANCHES {
+                    let imm = distance as u32;
+                    tried.record_at(start, &Record { length, imm, ..with(opcode, &[slot(kind)]) })?;
+                }
+                // the high bytes of imm are not a short distance's
+                let imm = distance as u8 as u32 | 0x1234_5600;
+                tried.record_at(start, &Record { length, imm, ..with(0, &[slot(3)]) })?;
+            }
+            // the last distances have targets around the ends of 32 bits
+            let home = 0u32.wrapping_sub(start).wrapping_sub(length as u32);
+            for middle in [0x7fff_ffffu32, 0x8000_0000, 0xffff_ff00, 0x100, home] {
+                for near in 0..34u32 {
+                    let imm = middle.wrapping_add(near).wrapping_sub(17);
+                    tried.record_at(start, &Record { length, imm, ..with(1, &[slot(5)]) })?;
+                }
+            }
+        }
+        for opcode in 0..=23 {
+            for kind in 1..=16 {
+                for further in [&[][..], &[slot(5)], &[register(1, 0), slot(10)]] {
+                    let slots = [&[slot(kind)], further].concat();
+                    tried.record_at(start, &with(opcode, &slots))?;
+                }
+            }
+        }
+    }
+    tried.say("targets: every 8-bit distance and length, at start addresses around the ends of 32 bits");
     Ok(())
 }
 
@@ -402,8 +473,11 @@ fn lengths(tried: &mut Tried) -> Result<(), Difference> {
         }
     }
     for length in (0..1600).chain([4095, 4096, 65_534, 65_535]) {
-        tried.body(&vec![0; length])?;
-        tried.body(&vec![17; length])?;
+        for body in [vec![0; length], vec![17; length]] {
+            tried.body(&body)?;
+            // as it is in both versions, so that in version 2 there are those too short for an address
+            tried.both([&body, &body])?;
+        }
     }
     tried.say("lengths: every count with body lengths around it, bodies up to 65,535 bytes");
     Ok(())
@@ -413,9 +487,9 @@ fn lengths(tried: &mut Tried) -> Result<(), Difference> {
 fn edges_of_the_entry() -> Result<(), Difference> {
     let mut host = Host::start(&command("COMPARE_HOST"));
     // a body that no frame can hold is the record entry's alone
-    for length in [65_536, 100_000] {
+    for (version, length) in VERSIONS.into_iter().flat_map(|version| [(version, 65_536), (version, 100_000)]) {
         let body = vec![0; length];
-        match host.check_record(&body) {
+        match host.check_record(version, &body) {
             Ok(None) => {}
             Ok(Some(difference)) => return Err(difference),
             Err(complaint) => return Err(Difference::complaint(&body[..14], &complaint)),
@@ -423,25 +497,26 @@ fn edges_of_the_entry() -> Result<(), Difference> {
     }
     // empty frames: two bytes each, twelve bytes of text each
     let mut listing = vec![0; MAX_LISTING + 1];
-    listing[0] = 1;
-    let over = Expected { returned: 2 << 32, text: Vec::new() };
-    for (mode, room) in [(0, 0), (1, 1000)] {
-        host.check_listing("one byte over the limit", &listing, mode, room, &over)?;
+    for (version, mode, room) in [(1, 0, 0), (1, 1, 1000), (1, 2, 1000), (2, 2, 1000), (3, 2, 0)] {
+        listing[0] = version;
+        host.check_listing("one byte over the limit", &listing, mode, room, &Expected::refusal(2))?;
     }
-    let other_mode = Expected { returned: 1 << 32, text: Vec::new() };
-    host.check_listing("one byte over the limit", &listing, 2, 1000, &other_mode)?;
+    host.check_listing("one byte over the limit", &listing, 3, 1000, &Expected::refusal(1))?;
     listing.pop();
-    let mut text = b"; refused 2\n".repeat((MAX_LISTING - 1) / 2);
-    text.extend_from_slice(b"; cut\n");
-    let length = text.len() as u64;
-    let expected = Expected::of(0, 0, &text, length);
-    host.check_listing("exactly the limit, of empty frames", &listing, 0, length, &expected)?;
+    for (version, mode, answer) in [(1, 0, 2), (1, 2, 1), (2, 2, 2)] {
+        listing[0] = version;
+        let mut text = format!("; refused {answer}\n").repeat((MAX_LISTING - 1) / 2).into_bytes();
+        text.extend_from_slice(b"; cut\n");
+        let length = text.len() as u64;
+        let expected = Expected::of(0, &text, length);
+        host.check_listing("exactly the limit, of empty frames", &listing, mode, length, &expected)?;
+    }
     let listing = largest_listing();
     let mut text = Sink::default();
     listing_into(&listing, 0, &mut text).map_err(|(complaint, body)| Difference::complaint(&body, &complaint))?;
     let length = text.0.len() as u64;
     for room in [length, length - 1] {
-        let expected = Expected::of(0, 0, &text.0, room);
+        let expected = Expected::of(0, &text.0, room);
         host.check_listing("exactly the limit, of the longest text", &listing, 0, room, &expected)?;
     }
     println!("the listing entry at its limit: {} bytes in, {length} out", listing.len());

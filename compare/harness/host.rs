@@ -1,5 +1,6 @@
 //! Speaks to the C host (`host/driver.c`): sends calls, reads what they did.
 
+use crate::batch::{View, MODES};
 use crate::difference::Difference;
 use oracle::{line_into, Complaint, Sink};
 use std::io::{BufReader, Read, Write};
@@ -39,6 +40,7 @@ pub struct Done {
 /// One call on a record's body.
 #[derive(Clone, Copy, Debug)]
 pub(crate) struct Call {
+    pub(crate) version: u32,
     pub(crate) mode: u32,
     pub(crate) room: u32,
 }
@@ -46,16 +48,32 @@ pub(crate) struct Call {
 /// More room than any line takes.
 const AMPLE: u32 = 400;
 
+impl Call {
+    /// The view whose answer and line the call has to give, if there is one: all others are answered with 1.
+    pub(crate) fn view(self) -> Option<View> {
+        let Call { version, mode, .. } = self;
+        View::all().find(|&view| view == View { version, mode })
+    }
+
+    pub(crate) fn place(self) -> String {
+        format!("masm_print_record, version {}, mode {}, room {}", self.version, self.mode, self.room)
+    }
+}
+
 impl Expected {
-    /// Document 01's table, from the answer (0, 2 to 5 or 7) and the line that the oracle gives.
-    pub fn of(mode: u32, answer: u8, line: &[u8], room: u64) -> Expected {
+    /// Document 01's table, from the answer (any but 6) and the line that the oracle gives.
+    pub fn of(answer: u8, line: &[u8], room: u64) -> Expected {
         let (answer, length, text): (u64, usize, &[u8]) = match answer {
-            _ if mode > 1 => (1, 0, &[]),
             0 if line.len() as u64 <= room => (0, line.len(), line),
             0 => (6, line.len(), &[]),
             refused => (refused as u64, 0, &[]),
         };
         Expected { returned: answer << 32 | length as u64, text: text.to_vec() }
+    }
+
+    /// An answer that writes nothing and has no length.
+    pub fn refusal(answer: u8) -> Expected {
+        Expected::of(answer, &[], 0)
     }
 
     fn tell(&self) -> String {
@@ -89,22 +107,28 @@ impl Done {
     }
 }
 
-/// The calls that a record is put through in the modes 0 and 1, and now and then in others.
-pub(crate) fn calls(answers: [u8; 2], lengths: [usize; 2], number: usize) -> Vec<Call> {
-    let mut calls = Vec::with_capacity(10);
-    for mode in 0..2u32 {
-        let length = lengths[mode as usize] as u32;
-        calls.push(Call { mode, room: AMPLE });
-        calls.push(Call { mode, room: 0 });
-        if answers[mode as usize] == 0 {
+/// Versions and modes that are none, each with one that is, and two that are none at once.
+const STRANGERS: [(u32, u32); 9] =
+    [(0, 0), (0, 2), (3, 1), (3, 2), (u32::MAX, 0), (1, MODES), (2, MODES), (2, u32::MAX), (257, u32::MAX)];
+
+/// The calls that a record's body of a version is put through in every mode, and now and then beyond them. `said` gives
+/// the oracle's answer in a view, and the length of the line if it is printed.
+pub(crate) fn calls(version: u32, number: usize, said: impl Fn(View) -> (u8, usize)) -> Vec<Call> {
+    let mut calls = Vec::with_capacity(12);
+    for mode in 0..MODES {
+        let (answer, length) = said(View { version, mode });
+        let call = |room| Call { version, mode, room };
+        calls.extend([call(AMPLE), call(0)]);
+        if answer == 0 {
             // exactly enough, and one byte less
-            calls.push(Call { mode, room: length });
-            calls.push(Call { mode, room: length - 1 });
+            calls.extend([call(length as u32), call(length as u32 - 1)]);
         }
     }
     if number % 8 == 0 {
-        calls.push(Call { mode: 2, room: AMPLE });
-        calls.push(Call { mode: u32::MAX, room: (number % 3) as u32 });
+        for (k, (version, mode)) in STRANGERS.into_iter().enumerate() {
+            let room = if k % 2 == 0 { AMPLE } else { (number % 3) as u32 };
+            calls.push(Call { version, mode, room });
+        }
     }
     calls
 }
@@ -164,6 +188,7 @@ impl Host {
             payload.extend((calls.len() as u32).to_le_bytes());
             payload.extend_from_slice(body);
             for call in calls {
+                payload.extend(call.version.to_le_bytes());
                 payload.extend(call.mode.to_le_bytes());
                 payload.extend(call.room.to_le_bytes());
             }
@@ -182,26 +207,33 @@ impl Host {
 
     /// One record through all its calls, from the oracle's answers to the difference. A host that
     /// dies on it is a difference too.
-    pub fn check_record(&mut self, body: &[u8]) -> Result<Option<Difference>, Complaint> {
+    pub fn check_record(&mut self, version: u32, body: &[u8]) -> Result<Option<Difference>, Complaint> {
         let mut outcomes = Vec::new();
-        for mode in 0..2 {
+        for mode in 0..MODES {
             let mut line = Sink::default();
-            outcomes.push((line_into(body, mode, &mut line)?, line.0));
+            outcomes.push((line_into(version, body, mode, &mut line)?, line.0));
         }
-        let answers = [outcomes[0].0, outcomes[1].0];
-        let lengths = [outcomes[0].1.len(), outcomes[1].1.len()];
-        // number 0 asks for the other modes too
-        let calls = calls(answers, lengths, 0);
+        let said = |view: View| {
+            let (answer, line) = &outcomes[view.mode as usize];
+            (*answer, line.len())
+        };
+        // number 0 asks for the other versions and modes too
+        let calls = calls(version, 0, said);
         let differs = |call: Call, expected, found| Difference {
-            place: format!("masm_print_record, mode {}, room {}", call.mode, call.room),
+            place: call.place(),
             body: Some(body.to_vec()),
             expected,
             found,
         };
         let asked = self.send(std::iter::once((body, &calls[..])));
         for &call in &calls {
-            let (answer, line) = &outcomes[call.mode.min(1) as usize];
-            let expected = Expected::of(call.mode, *answer, line, call.room as u64);
+            let expected = match call.view() {
+                Some(view) => {
+                    let (answer, line) = &outcomes[view.mode as usize];
+                    Expected::of(*answer, line, call.room as u64)
+                }
+                None => Expected::refusal(1),
+            };
             let outcome = match &asked {
                 Ok(()) => self.receive(&expected),
                 Err(_) => Err(std::io::ErrorKind::BrokenPipe.into()),

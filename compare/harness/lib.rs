@@ -1,9 +1,9 @@
 //! The comparison: batches of records go to three consumers, each beside the others, and every byte
 //! that comes back is held to the oracle's.
 //!
-//! - `batch`: records with the oracle's answers and lines
+//! - `batch`: records in both versions with the oracle's answers and lines
 //! - `host`: the C host, which calls the archive's two functions
-//! - `programs`: the two listing programs, each fed one long listing
+//! - `programs`: the three listing programs, each fed one long listing of each version
 //! - `checker`: brings them together and counts
 //! - `shrink`: makes a record that shows a difference small
 //! - `difference`: what is printed then
@@ -20,7 +20,7 @@ pub use difference::Difference;
 pub use host::{Expected, Host, Timed};
 pub use programs::run_program;
 
-/// The commands that the scripts set up: the C host over the archive, the two listing programs.
+/// The commands that the scripts set up: the C host over the archive, the listing programs.
 pub fn command(variable: &str) -> String {
     std::env::var(variable).unwrap_or_else(|_| {
         eprintln!("{variable} is not set: start this through the scripts of compare/");

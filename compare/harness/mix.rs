@@ -2,7 +2,7 @@
 //! calls and short jumps, now and then a string instruction, a flag, a float. Each record is an
 //! instruction that a processor has, so that printers of machine code can be asked for the same lines.
 
-use oracle::{Record, Slot};
+use oracle::{with_start, Record, Slot};
 use records::Random;
 
 /// A register in the R place (kind 1) or the M place (kind 2), as wide as `size` says.
@@ -89,11 +89,15 @@ fn record(random: &mut Random) -> Record {
     record
 }
 
-pub fn listing(count: usize, seed: u64) -> Vec<u8> {
+/// The records as a listing of a version. Those of version 2 stand one after the other in memory.
+pub fn listing(version: u32, count: usize, seed: u64) -> Vec<u8> {
     let mut random = Random::new(seed);
-    let mut listing = vec![1];
+    let mut listing = vec![version as u8];
+    let mut start = 0x0040_1000;
     for _ in 0..count {
-        let body = record(&mut random).body();
+        let record = record(&mut random);
+        let body = if version == 1 { record.body() } else { with_start(&record.body(), start) };
+        start += record.length as u32;
         listing.extend((body.len() as u16).to_be_bytes());
         listing.extend(body);
     }

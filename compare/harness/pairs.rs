@@ -1,11 +1,11 @@
 //! `pairs COUNT SEED FOLDER`: so many random pairs of listings through the program that compares two, against the
-//! oracle: every byte of its report, and its last line on standard error. The pairs are written to FOLDER, where the
-//! last one stays.
+//! oracle, in the three modes: every byte of its report, and its last line on standard error. The pairs are written to
+//! FOLDER, where the last one stays.
 //!
-//! A pair is a listing and a copy of it, with records changed, lost, doubled, put in or exchanged on either side, and
-//! now and then bytes cut off, added or changed. Some are of thousands of records or have the longest bodies, so that
-//! the program has to read on in the midst of both. Of one pair in four a side comes through a pipe, in parts of any
-//! size.
+//! A pair is a listing and a copy of it, of either version each, with records changed, lost, doubled, put in or
+//! exchanged on either side, and now and then bytes cut off, added or changed. Some are of thousands of records or
+//! have the longest bodies, so that the program has to read on in the midst of both. Of one pair in four a side comes
+//! through a pipe, in parts of any size.
 
 use harness::{command, Difference};
 use oracle::{comparison_into, Sink};
@@ -35,7 +35,7 @@ fn main() {
 }
 
 /// How the lines end that a report is made of, so that a run shows that it had them all.
-const KINDS: [&str; 8] = [
+const KINDS: [&str; 9] = [
     "differs",
     "same line",
     "only in the first",
@@ -43,17 +43,18 @@ const KINDS: [&str; 8] = [
     "first: ; cut",
     "second: ; cut",
     "; version",
+    "; refused 1",
     "differing records: 0",
 ];
 
-fn run(count: u64, seed: u64, folder: &str) -> Result<[u64; 8], Difference> {
+fn run(count: u64, seed: u64, folder: &str) -> Result<[u64; 9], Difference> {
     let program = command("COMPARE_LISTINGS");
     let files = ["first.lst", "second.lst"].map(|name| format!("{folder}/{name}"));
     let mut random = Random::new(seed);
-    let mut said = [0; 8];
+    let mut said = [0; 9];
     for number in 0..count {
         let listings = pair(&mut random);
-        let mode = random.below(2);
+        let mode = random.below(3);
         let mut text = Sink::default();
         let same = comparison_into(&listings[0], &listings[1], mode as u32, &mut text)
             .map_err(|(complaint, body)| Difference::complaint(&body, &complaint))?;
@@ -61,7 +62,7 @@ fn run(count: u64, seed: u64, folder: &str) -> Result<[u64; 8], Difference> {
         for (file, listing) in files.iter().zip(&listings) {
             std::fs::write(file, listing).unwrap_or_else(|why| trouble(&format!("{file} cannot be written: {why}")));
         }
-        let mut words = [["crate", "straight"][mode], &files[0], &files[1]];
+        let mut words = [["crate", "straight", "target"][mode], &files[0], &files[1]];
         let mut input = Vec::new();
         if random.chance(1, 4) {
             let side = random.below(2);
@@ -156,14 +157,15 @@ fn pair(random: &mut Random) -> [Vec<u8>; 2] {
             bodies.push(vec![0; 65_535 - random.pick(&[0, 0, 1, 30_000])]);
         }
     }
-    let mut sides = [bodies.clone(), bodies];
+    let versions = random.pick(&[[1, 1], [1, 2], [2, 1], [2, 2], [2, 2]]);
+    let mut sides = sides_of(random, versions, bodies);
     if random.chance(7, 8) {
         for _ in 0..1 + random.below(3) {
             let side = random.below(2);
-            change(random, &mut sides[side]);
+            change(random, versions[side], &mut sides[side]);
         }
     }
-    let mut listings = sides.map(|bodies| framed(&bodies));
+    let mut listings = [framed(versions[0], &sides[0]), framed(versions[1], &sides[1])];
     for listing in &mut listings {
         if random.chance(1, 5) {
             damage(random, listing);
@@ -172,12 +174,33 @@ fn pair(random: &mut Random) -> [Vec<u8>; 2] {
     listings
 }
 
+/// The records of both sides. Where the versions differ, half of the pairs have the same bytes on both sides, which are
+/// the same records to the program, and half have the same fields, which are not.
+fn sides_of(random: &mut Random, versions: [u8; 2], bodies: Vec<Vec<u8>>) -> [Vec<Vec<u8>>; 2] {
+    let located: Vec<Vec<u8>> = bodies.iter().map(|body| records::located(random, body)).collect();
+    if versions[0] != versions[1] && random.chance(1, 2) {
+        let same = if random.chance(1, 2) { bodies } else { located };
+        return [same.clone(), same];
+    }
+    versions.map(|version| if version == 1 { bodies.clone() } else { located.clone() })
+}
+
+/// A body of a version that is not on the other side.
+fn other_body(random: &mut Random, version: u8) -> Vec<u8> {
+    let body = records::body(random);
+    if version == 1 {
+        body
+    } else {
+        records::located(random, &body)
+    }
+}
+
 /// One change to the records of a side.
-fn change(random: &mut Random, bodies: &mut Vec<Vec<u8>>) {
+fn change(random: &mut Random, version: u8, bodies: &mut Vec<Vec<u8>>) {
     let place = random.below(bodies.len() + 1);
     let Some(body) = bodies.get_mut(place) else {
         // after the last record
-        bodies.push(records::body(random));
+        bodies.push(other_body(random, version));
         return;
     };
     match random.below(9) {
@@ -186,16 +209,20 @@ fn change(random: &mut Random, bodies: &mut Vec<Vec<u8>>) {
             body[at] ^= 1 << random.below(8);
         }
         1 if !body.is_empty() => *body.last_mut().expect("not empty") ^= 1,
-        // length, imm and disp, of which few lines show all
-        2 | 3 if body.len() >= 14 => {
-            let at = random.pick(&[3, 5, 6, 7, 8, 9, 10, 11, 12]);
+        // length, start address, imm and disp, of which few lines show all
+        2 | 3 if body.len() >= 18 => {
+            let at = if version == 1 {
+                random.pick(&[3, 5, 6, 7, 8, 9, 10, 11, 12])
+            } else {
+                random.pick(&[3, 4, 5, 6, 7, 9, 10, 11, 12, 13, 14, 15, 16])
+            };
             body[at] = random.byte();
         }
         4 => {
             bodies.remove(place);
         }
         5 => bodies.insert(place, bodies[place].clone()),
-        6 => bodies.insert(place, records::body(random)),
+        6 => bodies.insert(place, other_body(random, version)),
         7 => {
             let other = random.below(bodies.len());
             bodies.swap(place, other);
@@ -204,8 +231,8 @@ fn change(random: &mut Random, bodies: &mut Vec<Vec<u8>>) {
     }
 }
 
-fn framed(bodies: &[Vec<u8>]) -> Vec<u8> {
-    let mut listing = vec![1];
+fn framed(version: u8, bodies: &[Vec<u8>]) -> Vec<u8> {
+    let mut listing = vec![version];
     for body in bodies {
         listing.extend((body.len() as u16).to_be_bytes());
         listing.extend_from_slice(body);
@@ -218,7 +245,7 @@ fn damage(random: &mut Random, listing: &mut Vec<u8>) {
     match random.below(8) {
         0 => listing.clear(),
         1 => listing.truncate(1),
-        2 => listing[0] = random.pick(&[0, 2, 3, 255]),
+        2 => listing[0] = random.pick(&[0, 1, 2, 3, 255]),
         3 => {
             let added = 1 + random.below(4);
             listing.extend((0..added).map(|_| random.byte()));

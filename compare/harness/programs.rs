@@ -1,7 +1,7 @@
-//! The listing programs. Each runs once over one listing of all records: a thread writes the frames,
+//! The listing programs. Each runs once over one listing of all records in each version: a thread writes the frames,
 //! another reads the lines and holds them to the oracle's as they come.
 
-use crate::batch::Batch;
+use crate::batch::{Batch, View};
 use crate::difference::Difference;
 use std::io::{Read, Write};
 use std::process::{ChildStdin, Command, Stdio};
@@ -26,7 +26,7 @@ pub(crate) struct Found {
 const CUT: (&[u8], &[u8]) = (&[0, 20, 1, 2, 3], b"; cut\n");
 
 impl Program {
-    pub(crate) fn start(command: &str, mode: usize) -> Program {
+    pub(crate) fn start(command: &str, view: View) -> Program {
         let mut child = Command::new(command)
             .stdin(Stdio::piped())
             .stdout(Stdio::piped())
@@ -38,10 +38,10 @@ impl Program {
         let mut said = child.stderr.take().expect("piped");
         let (feed, frames) = sync_channel::<Arc<Batch>>(4);
         let (told, lines) = sync_channel::<Arc<Batch>>(64);
-        let writer = std::thread::spawn(move || write(input, frames, told));
-        let name = format!("the listing program of mode {mode}");
+        let writer = std::thread::spawn(move || write(input, view.version, frames, told));
+        let name = name(view);
         let reader = std::thread::spawn(move || {
-            let outcome = read(&mut output, lines, mode, &name);
+            let outcome = read(&mut output, lines, view, &name);
             // lets a program go that still has lines to write
             drop(output);
             let mut verdict = String::new();
@@ -78,13 +78,18 @@ impl Program {
     }
 }
 
-fn write(mut input: ChildStdin, frames: Receiver<Arc<Batch>>, told: SyncSender<Arc<Batch>>) {
+/// What is run, in words.
+pub(crate) fn name(view: View) -> String {
+    format!("the listing program of mode {}, version {}", view.mode, view.version)
+}
+
+fn write(mut input: ChildStdin, version: u32, frames: Receiver<Arc<Batch>>, told: SyncSender<Arc<Batch>>) {
     // a program that dies is noticed by the reader
-    if input.write_all(&[1]).is_err() {
+    if input.write_all(&[version as u8]).is_err() {
         return;
     }
     for batch in frames {
-        let bytes = batch.frames();
+        let bytes = batch.frames(version);
         if told.send(batch).is_err() || input.write_all(&bytes).is_err() {
             return;
         }
@@ -95,18 +100,18 @@ fn write(mut input: ChildStdin, frames: Receiver<Arc<Batch>>, told: SyncSender<A
 fn read(
     output: &mut impl Read,
     lines: Receiver<Arc<Batch>>,
-    mode: usize,
+    view: View,
     name: &str,
 ) -> Result<usize, Found> {
     let mut found = Vec::new();
     let mut records = 0;
     for batch in lines {
-        let expected = batch.text(mode);
+        let expected = batch.text(view);
         found.resize(expected.len(), 0);
         let whole = fill(output, &mut found);
         if let Some(byte) = (0..expected.len()).find(|&at| at >= whole || found[at] != expected[at]) {
-            let at = batch.record_at(mode, byte);
-            let line = String::from_utf8_lossy(batch.line(mode, at)).into_owned();
+            let at = batch.record_at(view, byte);
+            let line = String::from_utf8_lossy(batch.line(view, at)).into_owned();
             let start = byte - (byte - line_start(expected, byte));
             let rest: Vec<u8> =
                 found[start..whole.max(start)].iter().copied().take_while(|&b| b != b'\n').collect();
@@ -115,7 +120,7 @@ fn read(
                 &format!("{line:?}"),
                 &format!("{:?}", String::from_utf8_lossy(&rest)),
             );
-            difference.body = Some(batch.body(at).to_vec());
+            difference.body = Some(batch.body(view.version, at).to_vec());
             return Err(Found { difference, at: Some((batch, at)) });
         }
         records += expected.iter().filter(|&&byte| byte == b'\n').count();

@@ -230,14 +230,19 @@ pub fn text() -> String {
     rows.text
 }
 
-/// The oracle's answer and line. It leaves answer 1 to the caller: "mode is not 0 or 1".
+/// Numbers of no mode.
+const NO_MODES: [u32; 2] = [3, u32::MAX];
+
+/// The oracle's answer and line for a version 1 body.
 fn said(body: &[u8], mode: u32) -> (u8, String) {
-    if mode > 1 {
-        return (1, String::new());
-    }
     let mut line = Sink::default();
-    let answer = line_into(body, mode, &mut line).expect("000 prints what document 01 accepts");
+    let answer = line_into(1, body, mode, &mut line).expect("000 prints what document 01 accepts");
     (answer, String::from_utf8(line.0).expect("a line is ASCII"))
+}
+
+/// As a row has them.
+fn no_modes() -> String {
+    NO_MODES.map(|mode| mode.to_string()).join(" ")
 }
 
 /// A body in hex, its fields parted by blanks; of one that is too short, what there is of it.
@@ -301,6 +306,13 @@ impl Rows {
             self.row("0", body, crate_);
             self.row("1", body, straight);
         }
+    }
+
+    /// A row of the numbers that are no mode.
+    fn refused_modes(&mut self, body: &[u8]) {
+        let [answer, other] = NO_MODES.map(|mode| said(body, mode));
+        assert_eq!(answer, other);
+        self.row(&no_modes(), body, answer);
     }
 
     fn record(&mut self, record: Record) {

@@ -15,7 +15,7 @@ fn main() {
 
 fn run(count: u64, seed: u64) -> Result<harness::Counts, Difference> {
     let mut random = Random::new(seed);
-    let mut checker = Checker::start();
+    let mut checker = Checker::start(seed);
     for _ in 0..count {
         if !checker.push(&records::body(&mut random))? {
             break;

@@ -1,12 +1,14 @@
 //! From a record that shows a difference to a small one that still does.
 
+use oracle::with_start;
+
 /// Tries smaller bodies as long as one of them differs too: first fewer operands, then shorter, then
 /// smaller bytes.
-pub(crate) fn shrink(body: Vec<u8>, mut differs: impl FnMut(&[u8]) -> bool) -> Vec<u8> {
+pub(crate) fn shrink(version: u32, body: Vec<u8>, mut differs: impl FnMut(&[u8]) -> bool) -> Vec<u8> {
     let mut best = body;
     let mut tries = 4000;
     'again: loop {
-        for candidate in candidates(&best) {
+        for candidate in candidates(version, &best) {
             if tries == 0 {
                 return best;
             }
@@ -20,7 +22,23 @@ pub(crate) fn shrink(body: Vec<u8>, mut differs: impl FnMut(&[u8]) -> bool) -> V
     }
 }
 
-fn candidates(body: &[u8]) -> Vec<Vec<u8>> {
+/// Of version 2 the start address is made smaller too, and what is beside it as in version 1.
+fn candidates(version: u32, body: &[u8]) -> Vec<Vec<u8>> {
+    let taken_apart = body.split_first_chunk::<4>().and_then(|(front, behind)| {
+        let (start, rest) = behind.split_first_chunk::<4>()?;
+        Some((u32::from_be_bytes(*start), [&front[..], rest].concat()))
+    });
+    match taken_apart {
+        Some((start, fields)) if version == 2 => {
+            let smaller = smaller_fields(&fields).into_iter().map(|fields| with_start(&fields, start));
+            let starts = [0, 1, start / 2, start.saturating_sub(1)].into_iter().filter(|&other| other < start);
+            smaller.chain(starts.map(|other| with_start(&fields, other))).collect()
+        }
+        _ => smaller_fields(body),
+    }
+}
+
+fn smaller_fields(body: &[u8]) -> Vec<Vec<u8>> {
     let mut found = Vec::new();
     // a slot less, with the count to match; and a masked slot without its mask
     let mut start = 14;

@@ -1,6 +1,6 @@
-//! `stored FOLDER`: writes FOLDER/list_crate and FOLDER/list_straight, each with the files `stdin` and
-//! `stdout` that the gate runs a listing program on, and the same for where_crate and where_straight; for
-//! compare_listings `args`, the two listings in `data`, and `stdout`.
+//! `stored FOLDER`: writes FOLDER/list_crate, FOLDER/list_straight and FOLDER/list_target, each with the files
+//! `stdin` and `stdout` that the gate runs a listing program on, and the same for where_crate, where_straight and
+//! where_target; for compare_listings `args`, the two listings in `data`, and `stdout`.
 //! `stored FOLDER check`: says whether the files there are these.
 //!
 //! The listing, in order: document 01's lines; three records of each opcode up to 153 that keep the rules;
@@ -8,14 +8,17 @@
 //! programs' buffer, with a few records after each; W-204's records; three of each vector opcode that keep the
 //! rules; extended records of the generator with seed 204, 1,500 with these; the longest bodies that have the right
 //! length, and those beside them, with a few records after each; and an end inside a frame, which prints `; cut`.
+//! For list_target the same records are of version 2, with start addresses as a program has them, around 0, around
+//! 2^32, and spread; but for the longest, which have no room for one and stay as they are.
 //! For where_crate and where_straight, whose text has each body too: document 01's lines; bodies of
-//! 0 to 81 bytes; the longest, and one nearly so, with records between them; W-204's records; and such an end.
+//! 0 to 81 bytes; the longest, and one nearly so, with records between them; W-204's records; and such an end. For
+//! where_target these are of version 2, too.
 //! For compare_listings: document 01's lines and 300 plain records of the generator with seed 154, of which
 //! three quarters differ, by a bit of their last byte, in their length, or as a whole; long bodies, the longest
 //! of which differ in their last byte; document 01's lines on both sides; W-204's records and 100 extended ones
 //! with seed 204, which differ in the same ways; and document 01's lines in the first alone, which has such an end.
 
-use oracle::{comparison_into, line_into, listing_into, Record, Sink, Slot, OPCODES};
+use oracle::{comparison_into, line_into, listing_into, with_start, Record, Sink, Slot, OPCODES};
 use records::Random;
 use std::fmt::Write;
 use std::path::Path;
@@ -27,6 +30,8 @@ const RECORDS: usize = 6000;
 const EXTENDED_SEED: u64 = 204;
 const EXTENDED_RECORDS: usize = 1500;
 
+const MODES: [(u32, &str); 3] = [(0, "crate"), (1, "straight"), (2, "target")];
+
 /// The first of the vector opcodes.
 const VECTOR: usize = 154;
 
@@ -37,16 +42,18 @@ fn main() {
         std::process::exit(2);
     };
     let check = words.get(1).is_some_and(|word| word == "check");
-    let listing = listing();
+    let bodies = bodies();
     let mut same = true;
-    for (mode, program) in [(0, "list_crate"), (1, "list_straight")] {
+    for (mode, name) in MODES {
+        let listing = with_cut(mode, &bodies);
         let text = lines(&listing, mode);
-        same &= store_run(&Path::new(folder).join(program), check, &listing, &text);
+        same &= store_run(&Path::new(folder).join(format!("list_{name}")), check, &listing, &text);
         summary(&text, mode);
     }
-    let listing = located_listing();
-    for (mode, program) in [(0, "where_crate"), (1, "where_straight")] {
-        same &= store_run(&Path::new(folder).join(program), check, &listing, &located(&listing, mode));
+    let bodies = located_bodies();
+    for (mode, name) in MODES {
+        let listing = with_cut(mode, &bodies);
+        same &= store_run(&Path::new(folder).join(format!("where_{name}")), check, &listing, &located(&listing, mode));
     }
     same &= store_comparison(&Path::new(folder).join("compare_listings"), check);
     same &= store(&Path::new(folder).join("printed").join("rows.txt"), rows::text().as_bytes(), check);
@@ -116,7 +123,7 @@ fn store(file: &Path, bytes: &[u8], check: bool) -> bool {
     }
 }
 
-fn listing() -> Vec<u8> {
+fn bodies() -> Vec<Vec<u8>> {
     let mut bodies = documented();
     let mut random = Random::new(SEED);
     three_of_each(0..VECTOR, || records::sound_plain_body(&mut random), &mut bodies);
@@ -137,7 +144,7 @@ fn listing() -> Vec<u8> {
         bodies.extend_from_slice(&some);
     }
     extended(&mut bodies);
-    with_cut(&bodies)
+    bodies
 }
 
 /// Three records of each of these opcodes that are printed.
@@ -148,7 +155,7 @@ fn three_of_each(opcodes: std::ops::Range<usize>, mut next: impl FnMut() -> Vec<
         let opcode = u16::from_be_bytes([body[0], body[1]]) as usize;
         if opcodes.contains(&opcode)
             && owed[opcode - opcodes.start] > 0
-            && line_into(&body, 0, &mut Sink::default()) == Ok(0)
+            && line_into(1, &body, 0, &mut Sink::default()) == Ok(0)
         {
             owed[opcode - opcodes.start] -= 1;
             bodies.push(body);
@@ -181,7 +188,7 @@ fn extended(bodies: &mut Vec<Vec<u8>>) {
     }
 }
 
-fn located_listing() -> Vec<u8> {
+fn located_bodies() -> Vec<Vec<u8>> {
     let some = documented();
     let mut bodies = some.clone();
     for length in (0..82).chain([65_535, 65_000]) {
@@ -191,7 +198,7 @@ fn located_listing() -> Vec<u8> {
         }
     }
     bodies.extend(documented_vector());
-    with_cut(&bodies)
+    bodies
 }
 
 fn compared_listings() -> [Vec<u8>; 2] {
@@ -224,7 +231,7 @@ fn compared_listings() -> [Vec<u8>; 2] {
     second.extend(differing(&extended));
     first.extend(extended);
     first.extend_from_slice(&some);
-    [with_cut(&first), whole(&second)]
+    [with_cut(1, &first), whole(1, &second)]
 }
 
 /// The same records, of which three quarters differ.
@@ -241,8 +248,30 @@ fn differing(bodies: &[Vec<u8>]) -> Vec<Vec<u8>> {
     others
 }
 
-fn whole(bodies: &[Vec<u8>]) -> Vec<u8> {
-    let mut listing = vec![1];
+/// The start address of a record by its number.
+fn start(number: usize) -> u32 {
+    let number = number as u32;
+    match number % 4 {
+        // as in a program
+        0 => 0x0040_1000 + 4 * number,
+        // around 0 and 2^32, so that targets lie on the other side
+        1 => number / 4 % 150,
+        2 => u32::MAX - number / 4 % 150,
+        _ => number.wrapping_mul(0x9e37_79b9),
+    }
+}
+
+/// The same bodies in version 2. The longest that a frame holds have no room for an address and stay as they are.
+fn addressed(bodies: &[Vec<u8>]) -> Vec<Vec<u8>> {
+    let put_in = |(number, body): (usize, &Vec<u8>)| match body.len() {
+        0..=65_531 => with_start(body, start(number)),
+        _ => body.clone(),
+    };
+    bodies.iter().enumerate().map(put_in).collect()
+}
+
+fn whole(version: u8, bodies: &[Vec<u8>]) -> Vec<u8> {
+    let mut listing = vec![version];
     for body in bodies {
         listing.extend((body.len() as u16).to_be_bytes());
         listing.extend_from_slice(body);
@@ -250,9 +279,10 @@ fn whole(bodies: &[Vec<u8>]) -> Vec<u8> {
     listing
 }
 
-/// A listing of these bodies that ends inside a frame: one of nineteen bytes that has seven.
-fn with_cut(bodies: &[Vec<u8>]) -> Vec<u8> {
-    let mut listing = whole(bodies);
+/// A mode's listing of these bodies, which ends inside a frame: one of nineteen bytes that has seven. Mode 2 needs the
+/// start addresses.
+fn with_cut(mode: u32, bodies: &[Vec<u8>]) -> Vec<u8> {
+    let mut listing = if mode == 2 { whole(2, &addressed(bodies)) } else { whole(1, bodies) };
     listing.extend([0, 19, 0, 0, 0, 5, 0, 0, 0]);
     listing
 }

@@ -18,7 +18,7 @@ fn main() {
                         Record { opcode, length: 1, mem_size, count: count as u8, ..Record::default() };
                     record.slots[..count].copy_from_slice(slots);
                     let body = record.body();
-                    let answer = match line_into(&body, 0, &mut Sink::default()) {
+                    let answer = match line_into(1, &body, 0, &mut Sink::default()) {
                         Ok(answer @ (4 | 5)) => answer,
                         Ok(_) => continue,
                         Err(complaint) => {

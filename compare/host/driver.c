@@ -16,7 +16,7 @@ typedef unsigned int u32;
 typedef unsigned long u64;
 typedef long i64;
 
-u64 masm_print_record(const u8 *body, u64 body_len, u32 mode, u8 *text, u64 text_len);
+u64 masm_print_record(const u8 *body, u64 body_len, u32 version, u32 mode, u8 *text, u64 text_len);
 u64 masm_print_listing(const u8 *listing, u64 listing_len, u32 mode, u8 *text, u64 text_len);
 
 i64 read(int file, void *to, u64 count);
@@ -154,7 +154,7 @@ static void tell(u64 returned, u64 room)
 }
 
 /* Payload: for each record its length and its number of calls, four bytes each, the body, and for each
-   call mode and room, four bytes each. A reply for each call. The body stands before a page that may
+   call version, mode and room, four bytes each. A reply for each call. The body stands before a page that may
    not be read, so that reading behind it ends the program. */
 static void records(const u8 *at, u64 count, u8 *body_end)
 {
@@ -165,12 +165,13 @@ static void records(const u8 *at, u64 count, u8 *body_end)
 		at += 8;
 		__builtin_memcpy(body, at, length);
 		at += length;
-		for (; calls; calls--, at += 8) {
-			u64 room = number(at + 4, 4);
+		for (; calls; calls--, at += 12) {
+			u32 version = (u32)number(at, 4), mode = (u32)number(at + 4, 4);
+			u64 room = number(at + 8, 4);
 			if (room > MAX_ROOM)
 				__builtin_trap();
 			prepare(room);
-			tell(masm_print_record(body, length, (u32)number(at, 4), lent + FENCE, room), room);
+			tell(masm_print_record(body, length, version, mode, lent + FENCE, room), room);
 		}
 	}
 	flush();
@@ -213,13 +214,13 @@ static void timed(const u8 *at, u64 count)
 
 /* The records of a listing, each by a call of its own. Payload as for `timed`, but the room is that of
    each call; 0 is exactly the room that the record needs, which is asked for before the first round. The
-   listing is whole. Reply: for each round the bytes printed, all together, and the nanoseconds. */
+   listing is whole, and its version byte is the version of each record. Reply: for each round the bytes printed, all together, and the nanoseconds. */
 static void each(const u8 *at, u64 count)
 {
 	static u64 took[2 * MAX_ROUNDS];
 	static u32 needed[MAX_TIMED];
 	u64 rounds = number(at, 4), room = number(at + 8, 8), k;
-	u32 mode = (u32)number(at + 4, 4);
+	u32 mode = (u32)number(at + 4, 4), version = at[16];
 	const u8 *first = at + 17, *end = at + count, *frame;
 	i64 from[2], to[2];
 
@@ -229,14 +230,14 @@ static void each(const u8 *at, u64 count)
 	for (frame = first, k = 0; frame < end; frame += 2 + (frame[0] << 8 | frame[1])) {
 		if (k == MAX_TIMED)
 			__builtin_trap();
-		needed[k++] = room ? (u32)room : (u32)masm_print_record(frame + 2, frame[0] << 8 | frame[1], mode, lent + FENCE, MAX_ROOM);
+		needed[k++] = room ? (u32)room : (u32)masm_print_record(frame + 2, frame[0] << 8 | frame[1], version, mode, lent + FENCE, MAX_ROOM);
 	}
 	for (u64 round = 0; round < rounds; round++) {
 		u64 printed = 0;
 		clock_gettime(PROCESSOR_TIME, from);
 		for (frame = first, k = 0; frame < end; k++) {
 			u64 length = frame[0] << 8 | frame[1];
-			u64 returned = masm_print_record(frame + 2, length, mode, lent + FENCE, needed[k]);
+			u64 returned = masm_print_record(frame + 2, length, version, mode, lent + FENCE, needed[k]);
 			printed += returned >> 32 ? 0 : (u32)returned;
 			frame += 2 + length;
 		}

@@ -1,6 +1,6 @@
-//! `ask 0` or `ask 1`, a mode: a listing on standard input, its lines on standard output.
-//! `ask record HEX`: one body in hex; its answer and its line in both modes, and what 000 would
-//! do with it if nothing were refused.
+//! `ask 0`, `ask 1` or `ask 2`, a mode: a listing on standard input, its lines on standard output.
+//! `ask record HEX`: one version 1 body in hex; its answer and its line in each mode, and what 000 would
+//! do with it if nothing were refused. `ask record 2 HEX`: the same of a version 2 body.
 
 use oracle::{line_into, listing_into, unguarded_line, Record, Sink};
 use std::io::{Read, Write};
@@ -12,12 +12,11 @@ fn main() {
     match words.iter().map(String::as_str).collect::<Vec<_>>()[..] {
         ["0"] => list(0),
         ["1"] => list(1),
-        ["record", hex] => match parse(hex) {
-            Some(body) => explain(&body),
-            None => exit(2),
-        },
+        ["2"] => list(2),
+        ["record", hex] | ["record", "1", hex] => explain_hex(1, hex),
+        ["record", "2", hex] => explain_hex(2, hex),
         _ => {
-            eprintln!("use: ask 0, ask 1 or ask record HEX");
+            eprintln!("use: ask 0, ask 1, ask 2 or ask record [1 or 2] HEX");
             exit(2);
         }
     }
@@ -35,16 +34,23 @@ fn list(mode: u32) {
     }
 }
 
-fn explain(body: &[u8]) {
-    for mode in [0, 1] {
+fn explain_hex(version: u32, hex: &str) {
+    match parse(hex) {
+        Some(body) => explain(version, &body),
+        None => exit(2),
+    }
+}
+
+fn explain(version: u32, body: &[u8]) {
+    for mode in 0..3 {
         let mut out = Sink::default();
-        match line_into(body, mode, &mut out) {
+        match line_into(version, body, mode, &mut out) {
             Ok(0) => println!("mode {mode}: {}", String::from_utf8_lossy(&out.0)),
             Ok(answer) => println!("mode {mode}: refused {answer}"),
             Err(complaint) => println!("mode {mode}: 000 CANNOT PRINT IT: {}", complaint.0),
         }
     }
-    if let Ok(record) = Record::read(body) {
+    if let Ok(record) = Record::read(version, body) {
         match unguarded_line(&record) {
             Ok(line) => println!("000 alone: {line}"),
             Err(complaint) => println!("000 alone: panics, {}", complaint.0),

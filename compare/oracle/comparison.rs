@@ -2,11 +2,13 @@
 //! alone. Both listings are taken apart whole before anything is compared, so it knows no places and no reads.
 
 use crate::print::{line_into, Complaint, Sink};
+use crate::VERSIONS;
 
 /// A listing taken apart.
 struct Listing<'a> {
     /// `; cut` where there is no version byte, `; version` where it is not known
     refusal: Option<&'static str>,
+    version: u32,
     /// of its whole frames
     bodies: Vec<&'a [u8]>,
     /// bytes are left after them
@@ -15,10 +17,11 @@ struct Listing<'a> {
 
 impl Listing<'_> {
     fn of(bytes: &[u8]) -> Listing<'_> {
-        let mut listing = Listing { refusal: None, bodies: Vec::new(), cut: false };
+        let mut listing = Listing { refusal: None, version: 0, bodies: Vec::new(), cut: false };
         match bytes.first() {
             None => listing.refusal = Some("; cut"),
-            Some(1) => {
+            Some(&byte) if VERSIONS.contains(&(byte as u32)) => {
+                listing.version = byte as u32;
                 let mut at = 1;
                 while at + 2 <= bytes.len() {
                     let start = at + 2;
@@ -34,6 +37,16 @@ impl Listing<'_> {
             Some(_) => listing.refusal = Some("; version"),
         }
         listing
+    }
+
+    /// The line that it shows for a record, which is by its own version.
+    fn line(&self, body: &[u8], mode: u32) -> Result<String, (Complaint, Vec<u8>)> {
+        let mut text = Sink::default();
+        match line_into(self.version, body, mode, &mut text) {
+            Ok(0) => Ok(String::from_utf8_lossy(&text.0).into_owned()),
+            Ok(answer) => Ok(format!("; refused {answer}")),
+            Err(complaint) => Err((complaint, body.to_vec())),
+        }
     }
 
     fn cut_at(&self, number: usize) -> Option<&'static str> {
@@ -74,29 +87,20 @@ fn walk(sides: &[Listing; 2], mode: u32, events: &mut Vec<String>) -> Result<End
         }
         let (what, lines) = match (first.bodies.get(number), second.bodies.get(number)) {
             (None, None) => break,
+            // the bodies alone decide, whatever the versions are
             (Some(a), Some(b)) if a == b => continue,
             (Some(a), Some(b)) => {
-                let (a, b) = (line(a, mode)?, line(b, mode)?);
+                let (a, b) = (first.line(a, mode)?, second.line(b, mode)?);
                 if a == b {
                     ("differs, same line", format!("  both:   {a}\n"))
                 } else {
                     ("differs", format!("  first:  {a}\n  second: {b}\n"))
                 }
             }
-            (Some(a), None) => ("only in the first", format!("  first:  {}\n", line(a, mode)?)),
-            (None, Some(b)) => ("only in the second", format!("  second: {}\n", line(b, mode)?)),
+            (Some(a), None) => ("only in the first", format!("  first:  {}\n", first.line(a, mode)?)),
+            (None, Some(b)) => ("only in the second", format!("  second: {}\n", second.line(b, mode)?)),
         };
         events.push(format!("record {number} {what}\n{lines}"));
     }
     Ok([None, None])
-}
-
-/// The line that a listing shows for a record.
-fn line(body: &[u8], mode: u32) -> Result<String, (Complaint, Vec<u8>)> {
-    let mut text = Sink::default();
-    match line_into(body, mode, &mut text) {
-        Ok(0) => Ok(String::from_utf8_lossy(&text.0).into_owned()),
-        Ok(answer) => Ok(format!("; refused {answer}")),
-        Err(complaint) => Err((complaint, body.to_vec())),
-    }
 }

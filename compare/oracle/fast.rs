@@ -6,8 +6,7 @@ use crate::record::Record;
 use crate::refusals::{broadcast_refused, shape_refused, size_refused};
 use crate::shim::arch::display::DisplaySink;
 use crate::shim::{Instruction, NoRules};
-use crate::straight;
-use crate::MAX_LISTING;
+use crate::{call_refused, straight, target, MAX_LISTING, TARGET, VERSIONS};
 use core::fmt::{self, Write};
 
 /// A lent buffer, written from `at` on. Where the buffer ends the bytes are only counted.
@@ -39,8 +38,11 @@ impl fmt::Write for Lent<'_> {
 impl DisplaySink for Lent<'_> {}
 
 /// The line, or the answer that refuses it with nothing written.
-fn line(body: &[u8], mode: u32, out: &mut Lent) -> Result<(), u64> {
-    let record = Record::read(body).map_err(u64::from)?;
+fn line(version: u32, body: &[u8], mode: u32, out: &mut Lent) -> Result<(), u64> {
+    if call_refused(version, mode) {
+        return Err(1);
+    }
+    let record = Record::read(version, body).map_err(u64::from)?;
     if shape_refused(&record) {
         return Err(4);
     }
@@ -53,14 +55,18 @@ fn line(body: &[u8], mode: u32, out: &mut Lent) -> Result<(), u64> {
     let start = out.at;
     let printed = contextualize(&Instruction::of(&record), &NoRules, out);
     printed.expect("the buffer takes all");
-    if mode == 1 && straight::is_branch(&record) {
-        straighten(&record, start, out);
+    if mode > 0 && straight::is_branch(&record) {
+        let dollar = straighten(&record, start, out);
+        if mode == TARGET {
+            out.at = dollar;
+            target::numeral(&record, out).expect("the buffer takes all");
+        }
     }
     Ok(())
 }
 
-/// 000's line for a branch, from `start` on, is given mode 1's word and sum.
-fn straighten(record: &Record, start: usize, out: &mut Lent) {
+/// 000's line for a branch, from `start` on, is given mode 1's word and sum. Where its `$` is then.
+fn straighten(record: &Record, start: usize, out: &mut Lent) -> usize {
     let (word, dollar) = straight::place(&out.text[start..out.at]);
     let (word, dollar) = (start + word, start + dollar);
     let put = straight::word(record).as_bytes();
@@ -72,12 +78,13 @@ fn straighten(record: &Record, start: usize, out: &mut Lent) {
         out.at = behind + 1;
         straight::whole_sum(record, out).expect("the buffer takes all");
     }
+    behind
 }
 
 /// As `masm_print_record`, for a buffer with room for any line.
-pub fn print_record(body: &[u8], mode: u32, text: &mut [u8]) -> u64 {
+pub fn print_record(version: u32, body: &[u8], mode: u32, text: &mut [u8]) -> u64 {
     let mut out = Lent { text, at: 0 };
-    match line(body, mode, &mut out) {
+    match line(version, body, mode, &mut out) {
         Ok(()) => out.at as u64,
         Err(answer) => answer << 32,
     }
@@ -85,7 +92,7 @@ pub fn print_record(body: &[u8], mode: u32, text: &mut [u8]) -> u64 {
 
 /// As `masm_print_listing`, for a buffer with room for the text.
 pub fn print_listing(listing: &[u8], mode: u32, text: &mut [u8]) -> u64 {
-    if mode > 1 {
+    if mode > TARGET {
         return 1 << 32;
     }
     if listing.len() > MAX_LISTING {
@@ -98,11 +105,13 @@ pub fn print_listing(listing: &[u8], mode: u32, text: &mut [u8]) -> u64 {
 }
 
 fn lines(listing: &[u8], mode: u32, out: &mut Lent) -> fmt::Result {
-    let mut rest = match listing.split_first() {
+    let (version, mut rest) = match listing.split_first() {
         None => return out.write_str("; cut\n"),
-        Some((1, rest)) => rest,
-        Some(_) => return out.write_str("; version\n"),
+        Some((&byte, rest)) => (byte as u32, rest),
     };
+    if !VERSIONS.contains(&version) {
+        return out.write_str("; version\n");
+    }
     while !rest.is_empty() {
         let frame = rest.split_first_chunk::<2>().and_then(|(length, behind)| {
             behind.split_at_checked(u16::from_be_bytes(*length) as usize)
@@ -110,7 +119,7 @@ fn lines(listing: &[u8], mode: u32, out: &mut Lent) -> fmt::Result {
         let Some((body, behind)) = frame else {
             return out.write_str("; cut\n");
         };
-        match line(body, mode, out) {
+        match line(version, body, mode, out) {
             Ok(()) => out.write_char('\n')?,
             Err(answer) => {
                 out.write_str("; refused ")?;

@@ -1,14 +1,17 @@
 //! A listing: a version byte, then framed records; one line for each.
 
 use crate::print::{line_into, Complaint, Sink};
+use crate::VERSIONS;
 
-/// The whole listing's lines, behind `out`'s bytes. A complaint names the record's body.
+/// The whole listing's lines, behind `out`'s bytes, in one of the modes 0 to 2. A complaint names the record's body.
 pub fn listing_into(listing: &[u8], mode: u32, out: &mut Sink) -> Result<(), (Complaint, Vec<u8>)> {
-    let mut rest = match listing.split_first() {
+    let (version, mut rest) = match listing.split_first() {
         None => return say(out, "; cut"),
-        Some((1, rest)) => rest,
-        Some(_) => return say(out, "; version"),
+        Some((&byte, rest)) => (byte as u32, rest),
     };
+    if !VERSIONS.contains(&version) {
+        return say(out, "; version");
+    }
     while !rest.is_empty() {
         let frame = rest.split_first_chunk::<2>().and_then(|(length, behind)| {
             behind.split_at_checked(u16::from_be_bytes(*length) as usize)
@@ -16,7 +19,7 @@ pub fn listing_into(listing: &[u8], mode: u32, out: &mut Sink) -> Result<(), (Co
         let Some((body, behind)) = frame else {
             return say(out, "; cut");
         };
-        match line_into(body, mode, out) {
+        match line_into(version, body, mode, out) {
             Ok(0) => out.0.push(b'\n'),
             Ok(answer) => say(out, &format!("; refused {answer}"))?,
             Err(complaint) => return Err((complaint, body.to_vec())),

@@ -1,11 +1,11 @@
-//! One record: its answer and, if it is printed, its line in either mode.
+//! One record: its answer and, if it is printed, its line in each mode.
 
 use crate::protected_mode::display::masm::contextualize;
 use crate::record::Record;
 use crate::refusals::{broadcast_refused, shape_refused, size_refused};
 use crate::shim::arch::display::DisplaySink;
 use crate::shim::{Instruction, NoRules};
-use crate::straight;
+use crate::{call_refused, straight, target, TARGET};
 use core::fmt;
 use std::panic::{catch_unwind, AssertUnwindSafe};
 
@@ -52,10 +52,13 @@ pub fn unguarded_line(record: &Record) -> Result<String, Complaint> {
     Ok(String::from_utf8_lossy(&out.0).into_owned())
 }
 
-/// Answer 0 and the line after `out`'s bytes, or answer 2 to 5 or 7 and `out` as it was. The mode is 0
-/// or 1; answer 1 and answer 6 depend on the call and are the caller's.
-pub fn line_into(body: &[u8], mode: u32, out: &mut Sink) -> Result<u8, Complaint> {
-    let record = match Record::read(body) {
+/// Answer 0 and the line after `out`'s bytes, or answer 1 to 5 or 7 and `out` as it was. Answer 6 depends on the
+/// buffer and is the caller's.
+pub fn line_into(version: u32, body: &[u8], mode: u32, out: &mut Sink) -> Result<u8, Complaint> {
+    if call_refused(version, mode) {
+        return Ok(1);
+    }
+    let record = match Record::read(version, body) {
         Ok(record) => record,
         Err(answer) => return Ok(answer),
     };
@@ -73,8 +76,11 @@ pub fn line_into(body: &[u8], mode: u32, out: &mut Sink) -> Result<u8, Complaint
         out.0.truncate(start);
         return Err(complaint);
     }
-    if mode == 1 && straight::is_branch(&record) {
+    if mode > 0 && straight::is_branch(&record) {
         straighten(&record, out);
+        if mode == TARGET {
+            aim(&record, out);
+        }
     }
     Ok(0)
 }
@@ -88,4 +94,11 @@ fn straighten(record: &Record, out: &mut Sink) {
         out.0.truncate(dollar + 1);
         straight::whole_sum(record, out).expect("the sink takes all");
     }
+}
+
+/// Mode 2's only difference from mode 1: the target in place of `$` and what follows it.
+fn aim(record: &Record, out: &mut Sink) {
+    let (_, dollar) = straight::place(&out.0);
+    out.0.truncate(dollar);
+    target::numeral(record, out).expect("the sink takes all");
 }

@@ -1,4 +1,4 @@
-//! A record body's fields, and answers 2 and 3.
+//! A record body's fields in either version, and answers 2 and 3.
 
 use crate::opcodes::OPCODES;
 use core::ops::RangeInclusive;
@@ -114,6 +114,8 @@ pub struct Record {
     pub opcode: u16,
     pub flags: u8,
     pub length: u8,
+    /// of version 2: the address of the instruction's first byte; else 0
+    pub start: u32,
     pub mem_size: u8,
     pub imm: u32,
     pub disp: i32,
@@ -125,13 +127,39 @@ pub struct Record {
     pub tail: u8,
 }
 
+/// So many bytes of a body stand before the start address, or before what follows where there is none.
+const FRONT: usize = 4;
+
+/// A version 1 body with a start address put in, which makes it one of version 2. Of a body that ends before its
+/// place the address is the end.
+#[cfg(not(bare))]
+pub fn with_start(body: &[u8], start: u32) -> Vec<u8> {
+    let (front, rest) = body.split_at(FRONT.min(body.len()));
+    [front, &start.to_be_bytes(), rest].concat()
+}
+
+/// A body's front (opcode, flags, length), its start address, and the rest from mem_size on. None where it is too
+/// short for the first two.
+fn parts(version: u32, body: &[u8]) -> Option<([u8; FRONT], u32, &[u8])> {
+    let (&front, behind) = body.split_first_chunk::<FRONT>()?;
+    if version == 1 {
+        return Some((front, 0, behind));
+    }
+    let (&start, rest) = behind.split_first_chunk::<4>()?;
+    Some((front, u32::from_be_bytes(start), rest))
+}
+
+/// In what follows the front and the start address: the count of operands, and the first of them.
+const COUNT: usize = 9;
+const OPERANDS: usize = 10;
+
 /// Where the operands end, by the stored kinds one after the other, and whether the record is extended. None where
 /// the body ends before a kind does.
-fn operands_end(body: &[u8]) -> Option<(usize, bool)> {
-    let mut end = 14;
-    let mut extended = VECTOR_OPCODES.contains(&u16::from_be_bytes([body[0], body[1]]));
-    for _ in 0..body[13] {
-        let masked = MASKED_KINDS.contains(body.get(end)?);
+fn operands_end(opcode: u16, rest: &[u8]) -> Option<(usize, bool)> {
+    let mut end = OPERANDS;
+    let mut extended = VECTOR_OPCODES.contains(&opcode);
+    for _ in 0..rest[COUNT] {
+        let masked = MASKED_KINDS.contains(rest.get(end)?);
         end += if masked { 6 } else { 5 };
         extended |= masked;
     }
@@ -141,27 +169,30 @@ fn operands_end(body: &[u8]) -> Option<(usize, bool)> {
 impl Record {
     /// The fields, or answer 2 or 3. Answer 2 goes before 3, so the length is settled first, with
     /// the count and the kinds as they are stored.
-    pub fn read(body: &[u8]) -> Result<Record, u8> {
-        if body.len() < 14 {
+    pub fn read(version: u32, body: &[u8]) -> Result<Record, u8> {
+        let (front, start, rest) = parts(version, body).ok_or(2)?;
+        if rest.len() < OPERANDS {
             return Err(2);
         }
-        let (end, extended) = operands_end(body).ok_or(2)?;
-        if body.len() != end + if extended { 2 } else { 0 } {
+        let opcode = u16::from_be_bytes([front[0], front[1]]);
+        let (end, extended) = operands_end(opcode, rest).ok_or(2)?;
+        if rest.len() != end + if extended { 2 } else { 0 } {
             return Err(2);
         }
         let mut record = Record {
-            opcode: u16::from_be_bytes([body[0], body[1]]),
-            flags: body[2],
-            length: body[3],
-            mem_size: body[4],
-            imm: u32::from_be_bytes([body[5], body[6], body[7], body[8]]),
-            disp: i32::from_be_bytes([body[9], body[10], body[11], body[12]]),
-            count: body[13],
+            opcode,
+            flags: front[2],
+            length: front[3],
+            start,
+            mem_size: rest[0],
+            imm: u32::from_be_bytes([rest[1], rest[2], rest[3], rest[4]]),
+            disp: i32::from_be_bytes([rest[5], rest[6], rest[7], rest[8]]),
+            count: rest[COUNT],
             ..Record::default()
         };
         if extended {
-            record.length_bits = body[end];
-            record.tail = body[end + 1];
+            record.length_bits = rest[end];
+            record.tail = rest[end + 1];
         }
         let flags = if extended { 0x7f } else { 0x3f };
         let head = record.opcode < OPCODES
@@ -173,9 +204,9 @@ impl Record {
         if !head {
             return Err(3);
         }
-        let mut at = 14;
+        let mut at = OPERANDS;
         for place in 0..record.count as usize {
-            let slot = Slot::read(&body[at..]);
+            let slot = Slot::read(&rest[at..]);
             at += if slot.is_masked() { 6 } else { 5 };
             let vector_index = place == 0 && SCATTERS.contains(&record.opcode) && !slot.is_masked();
             if !slot.keeps_rules(extended, vector_index) {
@@ -186,7 +217,7 @@ impl Record {
         Ok(record)
     }
 
-    /// The body that holds these fields, the first `count` slots in it.
+    /// The version 1 body that holds these fields, the first `count` slots in it.
     #[cfg(not(bare))]
     pub fn body(&self) -> Vec<u8> {
         let mut body = Vec::with_capacity(40);

@@ -174,7 +174,7 @@ impl Found {
             self.nearest += 1;
         }
         let mut ours = Sink::default();
-        let answer = line_into(&body, 0, &mut ours).expect("000 prints what document 01 accepts");
+        let answer = line_into(1, &body, 0, &mut ours).expect("000 prints what document 01 accepts");
         let hex: String = body.iter().map(|byte| format!("{byte:02X}")).collect();
         self.listing.extend((body.len() as u16).to_be_bytes());
         self.listing.extend_from_slice(&body);

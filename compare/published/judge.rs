@@ -134,7 +134,7 @@ fn print(judge: &str, table: &BTreeMap<String, Vec<(String, String)>>) {
 /// The line of an accepted record.
 fn line(record: &Record, mode: u32) -> String {
     let mut out = Sink::default();
-    line_into(&record.body(), mode, &mut out).expect("000 prints what document 01 accepts");
+    line_into(1, &record.body(), mode, &mut out).expect("000 prints what document 01 accepts");
     String::from_utf8_lossy(&out.0).into_owned()
 }
 
@@ -152,8 +152,8 @@ fn sample(listing: &[u8]) -> Vec<Record> {
         let (body, behind) = behind.split_at(u16::from_be_bytes(*length) as usize);
         rest = behind;
         let mut out = Sink::default();
-        let Ok(record) = Record::read(body) else { continue };
-        if line_into(body, 0, &mut out) != Ok(0) {
+        let Ok(record) = Record::read(1, body) else { continue };
+        if line_into(1, body, 0, &mut out) != Ok(0) {
             continue;
         }
         let wraps = wraps(&record);
@@ -212,7 +212,7 @@ fn verdict(
         Err(other) => return other,
     };
     let mut out = Sink::default();
-    let read = match line_into(&back.body(), 1, &mut out) {
+    let read = match line_into(1, &back.body(), 1, &mut out) {
         Ok(0) => String::from_utf8_lossy(&out.0).into_owned(),
         _ => text,
     };

@@ -9,6 +9,7 @@ pub fn record_of(opcode: u16, parts: &Fields) -> Record {
         opcode,
         flags: parts.flags,
         length: parts.length,
+        start: 0,
         mem_size: parts.mem_size,
         imm: parts.imm,
         disp: parts.disp as i32,

@@ -60,14 +60,17 @@ fn signed(n: u32) -> String {
     format!("{} {}", if n < 0 { "-" } else { "+" }, n.unsigned_abs())
 }
 
+/// The word that says a width, and a blank, or nothing.
+fn width_word(width: Option<usize>) -> String {
+    port::WIDTHS.iter().find(|w| Some(w.1) == width).map_or(String::new(), |w| format!("{} ", w.0))
+}
+
 fn operand_forms(operand: &Operand) -> Vec<String> {
     match operand {
         Operand::Register(register) => vec![port::register_name(*register).into()],
         Operand::Immediate(n) => vec![format!("{n}"), format!("{}", *n as i32)],
-        Operand::Branch(width, target) => {
-            let word = port::WIDTHS.iter().find(|w| Some(w.1) == *width).map_or(String::new(), |w| format!("{} ", w.0));
-            vec![format!("{word}$ {}", signed(*target))]
-        }
+        Operand::Sized(width, n) => vec![format!("{}{n}", width_word(Some(*width))), format!("{}{}", width_word(Some(*width)), *n as i32)],
+        Operand::Branch(width, target) => vec![format!("{}$ {}", width_word(*width), signed(*target))],
         Operand::Address { label, segment, counts, disp, mask, broadcast } => {
             let mask = mask.map_or(String::new(), |mask| format!("{{{}}}", port::register_name(mask)));
             let broadcast = broadcast.map_or(String::new(), |n| format!("{{1to{n}}}"));
@@ -242,6 +245,7 @@ fn of_antt(operand: &Operand) -> String {
     match operand {
         Operand::Register(r) => format!("register {r}"),
         Operand::Immediate(n) => format!("immediate {n}"),
+        Operand::Sized(width, n) => format!("sized {width} {n}"),
         Operand::Branch(width, target) => format!("branch {} {target}", option(width.map(|width| width.to_string()))),
         Operand::Address { label, segment, counts, disp, mask, broadcast } => {
             let label = option(label.map(|label| label[..1].to_uppercase() + &label[1..]));

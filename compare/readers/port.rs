@@ -244,13 +244,14 @@ const SYNONYMS: [(&str, &str); 8] = [
     ("oword", "xmmword"),
 ];
 
-/// The words before a branch target, each with the number of bits of the distance.
+/// The words before a branch target or a number, each with the number of bits of the distance.
 pub const WIDTHS: [(&str, usize); 2] = [("short", 8), ("near ptr", 32)];
 
 #[derive(Clone, Debug, PartialEq, Eq)]
 pub enum Operand {
     Register(u8),
     Immediate(u32),
+    Sized(usize, u32),
     Branch(Option<usize>, u32),
     Address { label: Option<&'static str>, segment: Option<u8>, counts: Vec<(u8, u128)>, disp: u32, mask: Option<u8>, broadcast: Option<u32> },
 }
@@ -285,7 +286,8 @@ fn operand(start: u32, ts: &[Token]) -> Option<Operand> {
     } else if v.starts == 1 && label.is_none() {
         Some(Operand::Branch(width, wrapped(i128::from(start) + v.number)))
     } else {
-        (v.starts == 0 && width.is_none() && label.is_none()).then(|| Operand::Immediate(wrapped(v.number)))
+        let number = wrapped(v.number);
+        (v.starts == 0 && label.is_none()).then_some(width.map_or(Operand::Immediate(number), |width| Operand::Sized(width, number)))
     }
 }
 

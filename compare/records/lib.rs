@@ -5,8 +5,10 @@ mod extended;
 mod numbers;
 mod random;
 mod sound;
+mod starts;
 
 pub use random::Random;
+pub use starts::{located, located_at, start};
 
 /// The next body: half of them extended. About three fifths keep the record rules (most of these also have a
 /// shape that their opcode takes), the rest is damaged in one of the ways that document 01 and W-204 name.

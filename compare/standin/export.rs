@@ -16,9 +16,9 @@ unsafe fn lent<'a>(at: *const u8, length: usize) -> &'a [u8] {
 /// As for the archive: both pointers hold for their lengths, and the two do not overlap.
 #[no_mangle]
 pub unsafe extern "C" fn masm_print_record(
-    body: *const u8, body_len: usize, mode: u32, text: *mut u8, text_len: usize,
+    body: *const u8, body_len: usize, version: u32, mode: u32, text: *mut u8, text_len: usize,
 ) -> u64 {
-    direct::print_record(lent(body, body_len), mode, std::slice::from_raw_parts_mut(text, text_len))
+    direct::print_record(version, lent(body, body_len), mode, std::slice::from_raw_parts_mut(text, text_len))
 }
 
 /// # Safety

@@ -20,11 +20,11 @@ fn main() -> std::io::Result<()> {
     let mut version = [0];
     let end = match read_some(&mut input, &mut version)? {
         0 => cut(&run, &mut output)?,
-        _ if version != [1] => {
+        _ if !matches!(version[0], 1 | 2) => {
             output.write_all(b"; version\n")?;
             "unknown version".to_string()
         }
-        _ => frames(mode, &mut input, &mut output, &mut run)?,
+        _ => frames(version[0] as u32, mode, &mut input, &mut output, &mut run)?,
     };
     output.flush()?;
     eprintln!("list: {} records, {} refused; {end}", run.records, run.refused);
@@ -36,7 +36,9 @@ fn cut(run: &Run, output: &mut impl Write) -> std::io::Result<String> {
     Ok(format!("cut at byte {}", run.at))
 }
 
-fn frames(mode: u32, input: &mut impl Read, output: &mut impl Write, run: &mut Run) -> std::io::Result<String> {
+fn frames(
+    version: u32, mode: u32, input: &mut impl Read, output: &mut impl Write, run: &mut Run,
+) -> std::io::Result<String> {
     let mut body = Vec::new();
     let mut text = [0; 320];
     run.at = 1;
@@ -53,7 +55,7 @@ fn frames(mode: u32, input: &mut impl Read, output: &mut impl Write, run: &mut R
         }
         run.records += 1;
         run.at += 2 + body.len() as u64;
-        let returned = direct::print_record(&body, mode, &mut text);
+        let returned = direct::print_record(version, &body, mode, &mut text);
         match returned >> 32 {
             0 => output.write_all(&text[..returned as u32 as usize])?,
             answer => {

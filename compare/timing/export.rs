@@ -23,9 +23,9 @@ fn panic(_: &core::panic::PanicInfo) -> ! {
 /// As for the archive: both pointers hold for their lengths, and the two do not overlap.
 #[no_mangle]
 pub unsafe extern "C" fn masm_print_record(
-    body: *const u8, body_len: usize, mode: u32, text: *mut u8, text_len: usize,
+    body: *const u8, body_len: usize, version: u32, mode: u32, text: *mut u8, text_len: usize,
 ) -> u64 {
-    print_record(from_raw_parts(body, body_len), mode, from_raw_parts_mut(text, text_len))
+    print_record(version, from_raw_parts(body, body_len), mode, from_raw_parts_mut(text, text_len))
 }
 
 /// # Safety

@@ -1,11 +1,17 @@
-//! A listing program over `direct` in mode 0: standard input to standard output through 64 KiB each, as
-//! the listing programs have it. It is the Rust that the benchmark sets beside them.
+//! A listing program over `direct`: standard input to standard output through 64 KiB each, as the listing
+//! programs have it. It is the Rust that the benchmark sets beside them: for listings of version 1 in mode 0, or, built
+//! with `--cfg target`, for those of version 2 in mode 2.
 
 #![no_std]
 
 use core::ptr::addr_of_mut;
 
 const SIZE: usize = 1 << 16;
+#[cfg(not(target))]
+const VERSION_AND_MODE: (u32, u32) = (1, 0);
+#[cfg(target)]
+const VERSION_AND_MODE: (u32, u32) = (2, 2);
+
 /// A line, its newline, and some to spare.
 const LINE: usize = 330;
 
@@ -24,12 +30,13 @@ fn panic(_: &core::panic::PanicInfo) -> ! {
     unsafe { abort() }
 }
 
-/// The listing is a whole one of version 1 with no frame over 64 KiB, which is all that is timed.
+/// The listing is a whole one of that version with no frame over 64 KiB, which is all that is timed.
 #[no_mangle]
 pub extern "C" fn main() -> i32 {
     // SAFETY: this runs once, and nobody else names the two
     let (input, output) = unsafe { (&mut *addr_of_mut!(INPUT), &mut *addr_of_mut!(OUTPUT)) };
     let (mut held, mut out, mut first) = (0, 0, 1);
+    let (version, mode) = VERSION_AND_MODE;
     loop {
         // SAFETY: the place and the count are the slice's
         let got = unsafe { read(0, input[held..].as_mut_ptr(), SIZE - held) };
@@ -50,7 +57,7 @@ pub extern "C" fn main() -> i32 {
                 }
                 out = 0;
             }
-            let returned = direct::print_record(&input[at + 2..end], 0, &mut output[out..]);
+            let returned = direct::print_record(version, &input[at + 2..end], mode, &mut output[out..]);
             if returned >> 32 != 0 {
                 return 1;
             }

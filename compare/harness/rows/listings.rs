@@ -10,7 +10,7 @@ pub(super) fn listings(rows: &mut Rows) {
     let (no_length, no_field) = (vec![], vec![0; 14]);
     let (no_shape, no_size) = (op("hreset", &[]).body(), op("mov", &[at(EAX)]).body());
     rows.section("Listings: empty, of another version, of a version byte alone, cut in a length and in a body");
-    for part in [&[][..], &[0], &[2], &[2, 0, 0], &[255, 1], &[1], &[1, 0], &[1, 1], &[1, 0, 1], &[1, 0, 2, 0], &[1, 1, 0, 7]] {
+    for part in [&[][..], &[0], &[3], &[3, 0, 0], &[255, 1], &[1], &[1, 0], &[1, 1], &[1, 0, 1], &[1, 0, 2, 0], &[1, 1, 0, 7]] {
         rows.listing(part, &[], &[]);
     }
     rows.section("Listings: document 01's whole one, and the same cut");
@@ -21,11 +21,12 @@ pub(super) fn listings(rows: &mut Rows) {
     rows.listing(&[1], &[&push, &no_length, &jmp, &no_field], &[]);
     rows.listing(&[1], &[&no_shape, &push, &no_size], &[0, 5, 1, 1]);
     rows.listing(&[1], &[&jmp, &near, &jmp], &[0]);
-    rows.section("Listings: modes that are neither 0 nor 1");
-    for listing in [&[][..], &[1], &[2]] {
+    rows.section("Listings: numbers that are no mode");
+    for listing in [&[][..], &[1], &[3]] {
         let hex: Vec<String> = listing.iter().map(|byte| format!("{byte:02X}")).collect();
-        let came = print_listing(listing, 2, &mut [0; 16]);
-        rows.listed("2 4294967295", &hex.join(" "), came >> 32, "");
+        let [came, other] = NO_MODES.map(|mode| print_listing(listing, mode, &mut [0; 16]));
+        assert_eq!(came, other);
+        rows.listed(&no_modes(), &hex.join(" "), came >> 32, "");
     }
 }
 
@@ -43,15 +44,15 @@ pub(super) fn vector_listings(rows: &mut Rows) {
     rows.listing(&[1], &[&short, &seven, &push, &no_shape, &add], &[0, 38, 0]);
 }
 
-/// "listing over 16,777,216 bytes", of listings whose every byte is 2, so that they have one line.
+/// "listing over 16,777,216 bytes", of listings whose every byte is 3, so that they have one line.
 pub(super) fn limits(rows: &mut Rows) {
     rows.section("Listings at the limit, and a byte longer");
     for length in [MAX_LISTING, MAX_LISTING + 1] {
         let mut room = [0; 16];
-        let came = [0, 1].map(|mode| print_listing(&vec![2; length], mode, &mut room));
+        let came = [0, 1].map(|mode| print_listing(&vec![3; length], mode, &mut room));
         assert_eq!(came[0], came[1]);
         let text = String::from_utf8_lossy(&room[..came[0] as u32 as usize]).into_owned();
-        rows.listed("0 1", &format!("02 x {length}"), came[0] >> 32, text.trim_end());
+        rows.listed("0 1", &format!("03 x {length}"), came[0] >> 32, text.trim_end());
     }
 }
 

@@ -204,7 +204,7 @@ pub(super) fn order(rows: &mut Rows) {
 
 /// Answer 1, before every other.
 pub(super) fn modes(rows: &mut Rows) {
-    rows.section("Answer 1: modes that are neither 0 nor 1, and before every other answer");
+    rows.section("Answer 1: numbers that are no mode, and before every other answer");
     let refused = [
         op("nop", &[]).body(),
         Vec::new(),
@@ -213,8 +213,7 @@ pub(super) fn modes(rows: &mut Rows) {
         op("mov", &[at(EAX)]).body(),
     ];
     for body in &refused {
-        let answer = said(body, 2);
-        rows.row("2 4294967295", body, answer);
+        rows.refused_modes(body);
     }
 }
 
@@ -401,6 +400,5 @@ pub(super) fn vector_order(rows: &mut Rows) {
     }
     rows.section("Answer 1 before answer 7");
     let counted = op("vaddpd", &[r(ZMM0), at(ECX)]).size(1).flags(BROADCAST).body();
-    let answer = said(&counted, 2);
-    rows.row("2 4294967295", &counted, answer);
+    rows.refused_modes(&counted);
 }

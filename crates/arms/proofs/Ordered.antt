@@ -9,7 +9,7 @@ use native.Mathlib.Omega.{arith}
 use lib.Dec.{eqb, ltb}
 use borrow.Author.Tests.{lt-ltb, le-ltb}
 use Rattle.operands.specs.Kinds.{isAbsent, isRegister, isRegisterR, isMemory}
-use Rattle.operands.specs.Parts.{operandIn, shownOf, isSt0}
+use Rattle.operands.specs.Parts.{operandIn, startingAt, shownOf, isSt0}
 use Rattle.operands.specs.RegisterBytes.{eax, xmm0}
 use Rattle.operands.specs.declared.Instruction.{Instruction}
 use Rattle.operands.specs.declared.Operand.{Operand}
@@ -30,6 +30,7 @@ use Rattle.places.specs.declared.Plan.{Plan}
 use Rattle.places.specs.Labels.{labelNumber}
 use Rattle.places.specs.Places.{operandShown, itemAt, itemsAt}
 use Rattle.places.specs.Order.{counted, isNothing, fromTheLeft}
+use Rattle.places.proofs.Starts.{left-unstarted}
 use Rattle.bodies.specs.Body.{countOf}
 use Rattle.bodies.specs.Decoding.{instructionOf}
 use Rattle.bodies.proofs.Accepted.{absent-from-count}
@@ -227,9 +228,11 @@ body-counted body =
     let n = countOf body in
     rw (absent-from-count body 0, absent-from-count body 1, absent-from-count body 2, absent-from-count body 3, before-count 0 n, before-count 1 n, before-count 2 n)
 
--- so a body whose shape is not refused shows its operands from the left
+-- so a body whose shape is not refused shows its operands from the left, wherever it starts
 pub body-from-the-left :
-    (mode : Mode) (arm : Arm) (body : List ℕ) →
+    (mode : Mode) (arm : Arm) (start : ℕ) (body : List ℕ) →
     shapeRefused arm (instructionOf body) ≡ false →
-    fromTheLeft (itemsAt mode arm (instructionOf body) (planOf arm (instructionOf body))) ≡ true
-body-from-the-left mode arm body s = from-the-left mode arm (instructionOf body) (body-counted body) s
+    fromTheLeft (itemsAt mode arm (startingAt start (instructionOf body)) (planOf arm (instructionOf body))) ≡ true
+body-from-the-left mode arm start body s =
+    let i = instructionOf body in
+    left-unstarted mode arm start i (planOf arm i) ∙ from-the-left mode arm i (body-counted body) s

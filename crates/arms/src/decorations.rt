@@ -2,11 +2,12 @@
 ghost use mathlib.Core.Path.{_≡_};
 ghost use Prim.Native.Nat.{_≤_};
 ghost use Rattle.bodies.specs.Body.{countOf};
-ghost use Rattle.bodies.specs.Code.{Whole};
+ghost use Rattle.bodies.specs.Code.{fieldsBy, Whole};
 ghost use Rattle.bodies.specs.Decoding.{operandAt, instructionOf};
 ghost use Rattle.arms.specs.Decorations.{isBroadcast, byBits, broadcastCount, broadcastAfter, roundingOf, tailOf, broadcastRefused};
 ghost use Rattle.arms.specs.Plans.{broadcastAs, decorated as decoratedPlan, planOf};
 ghost use Rattle.arms.specs.Missing.{placeOver16, planOver16};
+use bodies::Front;
 use bodies::fields;
 use bodies::kinds::is_absent_at;
 use bodies::kinds::is_memory_at;
@@ -31,38 +32,38 @@ fn by_bits(l: u8, lp: u8, neither: u8, bits: u8) -> u8
 }
 
 // N of the operand after operand k.
-fn broadcast_count(arm: Arm, body: &[u8], k: u8) -> u8
-    requires { ⌜ Whole (now body) ⌝ }
-    ensures { λ r. ⌜ r ≡ broadcastCount arm (instructionOf (now (body .entry))) (operandAt (now (body .entry)) k) ⌝ }
+fn broadcast_count(arm: Arm, front: Front, rest: &[u8], k: u8) -> u8
+    requires { ⌜ Whole (fieldsBy front (now rest)) ⌝ }
+    ensures { λ r. ⌜ r ≡ broadcastCount arm (instructionOf (fieldsBy front (now (rest .entry)))) (operandAt (fieldsBy front (now (rest .entry))) k) ⌝ }
 {
     match arm {
-        Arm::Singles => by_bits(8, 16, 4, fields::bits(body)),
-        Arm::Doubles => by_bits(4, 8, 2, fields::bits(body)),
+        Arm::Singles => by_bits(8, 16, 4, fields::bits(front, rest)),
+        Arm::Doubles => by_bits(4, 8, 2, fields::bits(front, rest)),
         _ => {
-            let size = fields::size(body);
+            let size = fields::size(front, rest);
             if size == 0 {
                 0
             } else {
-                width_at(body, k) / size
+                width_at(front, rest, k) / size
             }
         }
     }
 }
 
-fn is_broadcast(body: &[u8]) -> bool
-    requires { ⌜ Whole (now body) ⌝ }
-    ensures { λ r. ⌜ r ≡ isBroadcast (instructionOf (now (body .entry))) ⌝ }
+fn is_broadcast(front: Front, rest: &[u8]) -> bool
+    requires { ⌜ Whole (fieldsBy front (now rest)) ⌝ }
+    ensures { λ r. ⌜ r ≡ isBroadcast (instructionOf (fieldsBy front (now (rest .entry)))) ⌝ }
 {
-    fields::flags(body) / 64 % 2 == 1
+    front.flags / 64 % 2 == 1
 }
 
 // The broadcast of the operand after operand k.
-fn broadcast_after(arm: Arm, body: &[u8], k: u8) -> Broadcast
-    requires { ⌜ Whole (now body) ⌝ }
-    ensures { λ r. ⌜ r ≡ broadcastAfter arm (instructionOf (now (body .entry))) (operandAt (now (body .entry)) k) ⌝ }
+fn broadcast_after(arm: Arm, front: Front, rest: &[u8], k: u8) -> Broadcast
+    requires { ⌜ Whole (fieldsBy front (now rest)) ⌝ }
+    ensures { λ r. ⌜ r ≡ broadcastAfter arm (instructionOf (fieldsBy front (now (rest .entry)))) (operandAt (fieldsBy front (now (rest .entry))) k) ⌝ }
 {
-    if is_broadcast(body) {
-        Broadcast::To(broadcast_count(arm, body, k))
+    if is_broadcast(front, rest) {
+        Broadcast::To(broadcast_count(arm, front, rest, k))
     } else {
         Broadcast::None
     }
@@ -79,16 +80,16 @@ fn rounding_of(bits: u8) -> Tail
     }
 }
 
-fn tail_of(body: &[u8]) -> Tail
-    requires { ⌜ Whole (now body) ⌝ }
-    ensures { λ r. ⌜ r ≡ tailOf (instructionOf (now (body .entry))) ⌝ }
+fn tail_of(front: Front, rest: &[u8]) -> Tail
+    requires { ⌜ Whole (fieldsBy front (now rest)) ⌝ }
+    ensures { λ r. ⌜ r ≡ tailOf (instructionOf (fieldsBy front (now (rest .entry)))) ⌝ }
 {
-    if is_absent_at(body, 0) {
+    if is_absent_at(front, rest, 0) {
         return Tail::None;
     }
-    match fields::tail(body) {
+    match fields::tail(front, rest) {
         1 => Tail::Sae,
-        2 => rounding_of(fields::bits(body)),
+        2 => rounding_of(fields::bits(front, rest)),
         _ => Tail::None,
     }
 }
@@ -120,9 +121,9 @@ fn broadcast_as(broadcast: Broadcast, place: Place) -> Place
 }
 
 // The plan of the general path with its broadcasts and its tail.
-pub fn decorated(arm: Arm, body: &[u8], plan: Plan) -> Plan
-    requires { ⌜ Whole (now body) ⌝ }
-    ensures { λ r. ⌜ r ≡ decoratedPlan arm (instructionOf (now (body .entry))) plan ⌝ }
+pub fn decorated(arm: Arm, front: Front, rest: &[u8], plan: Plan) -> Plan
+    requires { ⌜ Whole (fieldsBy front (now rest)) ⌝ }
+    ensures { λ r. ⌜ r ≡ decoratedPlan arm (instructionOf (fieldsBy front (now (rest .entry)))) plan ⌝ }
 {
     let a = plan.a;
     let b = plan.b;
@@ -130,18 +131,18 @@ pub fn decorated(arm: Arm, body: &[u8], plan: Plan) -> Plan
     let d = plan.d;
     Plan {
         a,
-        b: broadcast_as(broadcast_after(arm, body, 0), b),
-        c: broadcast_as(broadcast_after(arm, body, 1), c),
-        d: broadcast_as(broadcast_after(arm, body, 2), d),
-        tail: tail_of(body),
+        b: broadcast_as(broadcast_after(arm, front, rest, 0), b),
+        c: broadcast_as(broadcast_after(arm, front, rest, 1), c),
+        d: broadcast_as(broadcast_after(arm, front, rest, 2), d),
+        tail: tail_of(front, rest),
     }
 }
 
 // `{1toN}` with N above 16. The operand is looked at only where N is.
-fn place_over_16(body: &[u8], place: Place) -> bool
-    requires { ⌜ Whole (now body) ⌝ }
-    requires { ⌜ countOf (now body) ≤ 4 ⌝ }
-    ensures { λ r. ⌜ r ≡ placeOver16 (instructionOf (now (body .entry))) place ⌝ }
+fn place_over_16(front: Front, rest: &[u8], place: Place) -> bool
+    requires { ⌜ Whole (fieldsBy front (now rest)) ⌝ }
+    requires { ⌜ countOf (fieldsBy front (now rest)) ≤ 4 ⌝ }
+    ensures { λ r. ⌜ r ≡ placeOver16 (instructionOf (fieldsBy front (now (rest .entry)))) place ⌝ }
 {
     match place {
         Place::Nothing => false,
@@ -156,36 +157,42 @@ fn place_over_16(body: &[u8], place: Place) -> bool
             broadcast,
         } => match broadcast {
             Broadcast::None => false,
-            Broadcast::To(n) => { if 16 < n { is_memory_at(body, k) } else { false } }
+            Broadcast::To(n) => {
+                if 16 < n {
+                    is_memory_at(front, rest, k)
+                } else {
+                    false
+                }
+            }
         },
     }
 }
 
 // Some place prints a `{1toN}` with N above 16.
-fn plan_over_16(body: &[u8], plan: Plan) -> bool
-    requires { ⌜ Whole (now body) ⌝ }
-    requires { ⌜ countOf (now body) ≤ 4 ⌝ }
-    ensures { λ r. ⌜ r ≡ planOver16 (instructionOf (now (body .entry))) plan ⌝ }
+fn plan_over_16(front: Front, rest: &[u8], plan: Plan) -> bool
+    requires { ⌜ Whole (fieldsBy front (now rest)) ⌝ }
+    requires { ⌜ countOf (fieldsBy front (now rest)) ≤ 4 ⌝ }
+    ensures { λ r. ⌜ r ≡ planOver16 (instructionOf (fieldsBy front (now (rest .entry)))) plan ⌝ }
 {
     let a = plan.a;
     let b = plan.b;
     let c = plan.c;
     let d = plan.d;
-    place_over_16(body, a)
-        | place_over_16(body, b)
-        | place_over_16(body, c)
-        | place_over_16(body, d)
+    place_over_16(front, rest, a)
+        | place_over_16(front, rest, b)
+        | place_over_16(front, rest, c)
+        | place_over_16(front, rest, d)
 }
 
 // Answer 7, read off the record's plan. Without flag bit 6 there is nothing to read.
-pub fn broadcast_refused(arm: Arm, body: &[u8], plan: Plan) -> bool
-    requires { ⌜ Whole (now body) ⌝ }
-    requires { ⌜ countOf (now body) ≤ 4 ⌝ }
-    requires { ⌜ plan ≡ planOf arm (instructionOf (now body)) ⌝ }
-    ensures { λ r. ⌜ r ≡ broadcastRefused arm (instructionOf (now (body .entry))) ⌝ }
+pub fn broadcast_refused(arm: Arm, front: Front, rest: &[u8], plan: Plan) -> bool
+    requires { ⌜ Whole (fieldsBy front (now rest)) ⌝ }
+    requires { ⌜ countOf (fieldsBy front (now rest)) ≤ 4 ⌝ }
+    requires { ⌜ plan ≡ planOf arm (instructionOf (fieldsBy front (now rest))) ⌝ }
+    ensures { λ r. ⌜ r ≡ broadcastRefused arm (instructionOf (fieldsBy front (now (rest .entry)))) ⌝ }
 {
-    if is_broadcast(body) {
-        plan_over_16(body, plan)
+    if is_broadcast(front, rest) {
+        plan_over_16(front, rest, plan)
     } else {
         false
     }

@@ -3,7 +3,7 @@ ghost use mathlib.Core.Path.{_≡_};
 ghost use mathlib.Core.Bool.{false, _&&_};
 ghost use lib.Dec.{eqb};
 ghost use Rattle.bodies.specs.Body.{sizeOf};
-ghost use Rattle.bodies.specs.Code.{Whole};
+ghost use Rattle.bodies.specs.Code.{fieldsBy, Whole};
 ghost use Rattle.bodies.specs.Refusals.{fieldRefused};
 ghost use Rattle.bodies.specs.Decoding.{instructionOf};
 ghost use Rattle.arms.specs.Size.{generalPath};
@@ -18,6 +18,7 @@ use crate::labels::tbyte_label;
 use crate::tests::has_vector;
 use crate::tests::is_general;
 use crate::tests::lsl_source;
+use bodies::Front;
 use bodies::fields;
 use bodies::kinds::is_memory_at;
 use bodies::kinds::is_register_r_at;
@@ -133,15 +134,15 @@ fn spread(first: u8, later: u8, segment: Segment) -> Plan
 }
 
 // Whether 8 is `mmword`. The registers are looked at for that size alone.
-fn is_mmword(arm: Arm, body: &[u8], size: u8) -> bool
-    requires { ⌜ Whole (now body) ⌝ }
-    ensures { λ r. ⌜ r ≡ (eqb size 8 && mmwordFor arm (instructionOf (now (body .entry)))) ⌝ }
+fn is_mmword(arm: Arm, front: Front, rest: &[u8], size: u8) -> bool
+    requires { ⌜ Whole (fieldsBy front (now rest)) ⌝ }
+    ensures { λ r. ⌜ r ≡ (eqb size 8 && mmwordFor arm (instructionOf (fieldsBy front (now (rest .entry))))) ⌝ }
 {
     if size == 8 {
         match arm {
             Arm::Qword => false,
             Arm::Mmword => true,
-            _ => has_vector(body),
+            _ => has_vector(front, rest),
         }
     } else {
         false
@@ -174,13 +175,13 @@ fn general(arm: Arm, mmword: bool, size: u8) -> Plan
     }
 }
 
-fn fadd(body: &[u8]) -> Plan
-    requires { ⌜ Whole (now body) ⌝ }
-    ensures { λ r. ⌜ r ≡ placesOf Arm.Fadd (instructionOf (now (body .entry))) ⌝ }
+fn fadd(front: Front, rest: &[u8]) -> Plan
+    requires { ⌜ Whole (fieldsBy front (now rest)) ⌝ }
+    ensures { λ r. ⌜ r ≡ placesOf Arm.Fadd (instructionOf (fieldsBy front (now (rest .entry)))) ⌝ }
 {
-    if is_memory_at(body, 1) {
-        one(labelled(size_label(fields::size(body)), Segment::Shown, 1))
-    } else if is_register_r_at(body, 0) {
+    if is_memory_at(front, rest, 1) {
+        one(labelled(size_label(fields::size(front, rest)), Segment::Shown, 1))
+    } else if is_register_r_at(front, rest, 0) {
         two(st(0), plain(1))
     } else {
         two(plain(0), st(1))
@@ -188,16 +189,16 @@ fn fadd(body: &[u8]) -> Plan
 }
 
 // An arm that does not leave its record to the general path; those that are not named show their name alone.
-fn own(arm: Arm, body: &[u8], size: u8) -> Plan
-    requires { ⌜ Whole (now body) ⌝ }
-    requires { ⌜ size ≡ sizeOf (now body) ⌝ }
-    requires { ⌜ generalPath arm (instructionOf (now body)) ≡ false ⌝ }
-    ensures { λ r. ⌜ r ≡ placesOf arm (instructionOf (now (body .entry))) ⌝ }
+fn own(arm: Arm, front: Front, rest: &[u8], size: u8) -> Plan
+    requires { ⌜ Whole (fieldsBy front (now rest)) ⌝ }
+    requires { ⌜ size ≡ sizeOf (fieldsBy front (now rest)) ⌝ }
+    requires { ⌜ generalPath arm (instructionOf (fieldsBy front (now rest))) ≡ false ⌝ }
+    ensures { λ r. ⌜ r ≡ placesOf arm (instructionOf (fieldsBy front (now (rest .entry)))) ⌝ }
 {
     match arm {
         Arm::Branch | Arm::Call | Arm::Xbegin => one(Place::Branch),
         Arm::Hreset => two(plain(0), Place::Register(EAX)),
-        Arm::Lsl => two(plain(0), Place::Register(lsl_source(body))),
+        Arm::Lsl => two(plain(0), Place::Register(lsl_source(front, rest))),
         Arm::Prefetch => one(plain(0)),
         Arm::Sgdt => one(labelled(FWORD, Segment::Hidden, 0)),
         Arm::Lss => two(plain(0), labelled(lss_label(size), Segment::Hidden, 1)),
@@ -220,7 +221,7 @@ fn own(arm: Arm, body: &[u8], size: u8) -> Plan
         ),
         Arm::Lea => two(plain(0), plain(1)),
         Arm::Fcom => one(labelled(size_label(size), Segment::Shown, 1)),
-        Arm::Fadd => fadd(body),
+        Arm::Fadd => fadd(front, rest),
         Arm::Fbld => one(Place::Operand {
             k: 1,
             label: tbyte_label(size),
@@ -235,20 +236,20 @@ fn own(arm: Arm, body: &[u8], size: u8) -> Plan
 }
 
 // A record that is not extended has no flag bit 6 and no tail, so its plan is that of its places.
-pub fn plan_of(arm: Arm, body: &[u8]) -> Plan
-    requires { ⌜ Whole (now body) ⌝ }
-    requires { ⌜ fieldRefused (now body) ≡ false ⌝ }
-    ensures { λ r. ⌜ r ≡ planOf arm (instructionOf (now (body .entry))) ⌝ }
+pub fn plan_of(arm: Arm, front: Front, rest: &[u8]) -> Plan
+    requires { ⌜ Whole (fieldsBy front (now rest)) ⌝ }
+    requires { ⌜ fieldRefused (fieldsBy front (now rest)) ≡ false ⌝ }
+    ensures { λ r. ⌜ r ≡ planOf arm (instructionOf (fieldsBy front (now (rest .entry)))) ⌝ }
 {
-    let size = fields::size(body);
-    if is_general(arm, body) {
-        let plan = general(arm, is_mmword(arm, body, size), size);
-        if fields::is_extended(body) {
-            decorated(arm, body, plan)
+    let size = fields::size(front, rest);
+    if is_general(arm, front, rest) {
+        let plan = general(arm, is_mmword(arm, front, rest, size), size);
+        if fields::is_extended(front, rest) {
+            decorated(arm, front, rest, plan)
         } else {
             plan
         }
     } else {
-        own(arm, body, size)
+        own(arm, front, rest, size)
     }
 }

@@ -2,19 +2,20 @@
 ghost use mathlib.Core.Path.{_≡_};
 ghost use Prim.Native.Nat.{_≤_};
 ghost use Rattle.bodies.specs.Body.{countOf};
-ghost use Rattle.bodies.specs.Code.{Whole};
+ghost use Rattle.bodies.specs.Code.{fieldsBy, Whole};
 ghost use Rattle.bodies.specs.Decoding.{instructionOf};
 ghost use Rattle.arms.specs.Missing.{placeLacks, planLacks};
+use bodies::Front;
 use bodies::kinds::is_memory_at;
 use places::Place;
 use places::Plan;
 use places::labels::MISSING;
 
 // A label is called for and there is none. The operand is looked at only where its label is missing.
-fn place_lacks(body: &[u8], place: Place) -> bool
-    requires { ⌜ Whole (now body) ⌝ }
-    requires { ⌜ countOf (now body) ≤ 4 ⌝ }
-    ensures { λ r. ⌜ r ≡ placeLacks (instructionOf (now (body .entry))) place ⌝ }
+fn place_lacks(front: Front, rest: &[u8], place: Place) -> bool
+    requires { ⌜ Whole (fieldsBy front (now rest)) ⌝ }
+    requires { ⌜ countOf (fieldsBy front (now rest)) ≤ 4 ⌝ }
+    ensures { λ r. ⌜ r ≡ placeLacks (instructionOf (fieldsBy front (now (rest .entry)))) place ⌝ }
 {
     match place {
         Place::Nothing => false,
@@ -29,7 +30,7 @@ fn place_lacks(body: &[u8], place: Place) -> bool
             broadcast: _,
         } => {
             if label == MISSING {
-                is_memory_at(body, k)
+                is_memory_at(front, rest, k)
             } else {
                 false
             }
@@ -37,14 +38,17 @@ fn place_lacks(body: &[u8], place: Place) -> bool
     }
 }
 
-pub fn plan_lacks(body: &[u8], plan: Plan) -> bool
-    requires { ⌜ Whole (now body) ⌝ }
-    requires { ⌜ countOf (now body) ≤ 4 ⌝ }
-    ensures { λ r. ⌜ r ≡ planLacks (instructionOf (now (body .entry))) plan ⌝ }
+pub fn plan_lacks(front: Front, rest: &[u8], plan: Plan) -> bool
+    requires { ⌜ Whole (fieldsBy front (now rest)) ⌝ }
+    requires { ⌜ countOf (fieldsBy front (now rest)) ≤ 4 ⌝ }
+    ensures { λ r. ⌜ r ≡ planLacks (instructionOf (fieldsBy front (now (rest .entry)))) plan ⌝ }
 {
     let a = plan.a;
     let b = plan.b;
     let c = plan.c;
     let d = plan.d;
-    place_lacks(body, a) | place_lacks(body, b) | place_lacks(body, c) | place_lacks(body, d)
+    place_lacks(front, rest, a)
+        | place_lacks(front, rest, b)
+        | place_lacks(front, rest, c)
+        | place_lacks(front, rest, d)
 }

@@ -35,6 +35,7 @@ worked : decoded (0 ∷ 0 ∷ 0 ∷ 5 ∷ 0 ∷ 0 ∷ 0 ∷ 0 ∷ 0x7B ∷ 0 ∷
   opcode = 0;
   flags = 0;
   length = 5;
+  start = 0;
   size = 0;
   imm = 123;
   bits = 0;
@@ -57,6 +58,7 @@ four : decoded mixed ≡ Record record {
   opcode = 153;
   flags = 63;
   length = 15;
+  start = 0;
   size = 0;
   imm = 0xFB;
   bits = 0;
@@ -87,6 +89,7 @@ masked : decoded vectors ≡ Record record {
   opcode = 175;
   flags = 64;
   length = 6;
+  start = 0;
   size = 0;
   imm = 0xFB;
   bits = 3;
@@ -115,6 +118,7 @@ scattered : decoded scatter ≡ Record record {
   opcode = 154;
   flags = 0;
   length = 6;
+  start = 0;
   size = 0;
   imm = 0xFB;
   bits = 0;

@@ -11,7 +11,7 @@ use borrow.Author.Tests.{ltb-false, lt-ltb, le-ltb, eqb-true, eq-eqb, ne-eqb, no
 use Rattle.operands.specs.Kinds.{isMasked}
 use Rattle.frames.specs.Numbers.{byte}
 use Rattle.bodies.specs.Body.{opcodeOf, countOf, operandSize, placeOf, kindAt, anyMasked, isVectorOpcode, isExtended, endOf, bitsOf, tailOf}
-use Rattle.bodies.specs.Refusals.{lengthRefused, longestBody}
+use Rattle.bodies.specs.Refusals.{lengthRefused, longestFields}
 use Rattle.bodies.specs.Code.{Whole}
 use Rattle.bodies.proofs.Picks.{neither-left, neither-right, picked}
 use Rattle.bodies.proofs.OperandPlaces.{place-least, place-most, place-after, place-unmasked, place-masked, none-masked}
@@ -27,7 +27,7 @@ whole body e =
     }
 
 -- no right body is longer, as the count is a byte
-pub long-refused : (body : List ℕ) → longestBody < length body → countOf body < 2 ^ 8 → lengthRefused body ≡ true
+pub long-refused : (body : List ℕ) → longestFields < length body → countOf body < 2 ^ 8 → lengthRefused body ≡ true
 unfolding lengthRefused
 long-refused body long small =
     let two = picked (λ (n : ℕ). n ≤ 2) (isExtended body) 2 0 (λ e. omega arith) (λ e. omega arith) in

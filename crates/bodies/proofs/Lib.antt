@@ -2,6 +2,8 @@
 pub mod Picks
 pub mod OperandPlaces
 pub mod Lengths
+pub mod InRest
+pub mod Versions
 pub mod Signed
 pub mod Widths
 pub mod Operands

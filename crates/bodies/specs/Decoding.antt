@@ -86,13 +86,14 @@ operandAt body k =
     (byte body (placeOf body k + 3)) (byte body (placeOf body k + 4)) (maskAt body k))
     Absent
 
--- the record of a body
+-- the record of a body of version 1, which "has start address 0"
 unfoldable pub instructionOf : List ℕ → Instruction
 instructionOf body =
     record {
       opcode = opcodeOf body;
       flags = flagsOf body;
       length = lengthOf body;
+      start = 0;
       size = sizeOf body;
       imm = immOf body;
       bits = bitsOf body;

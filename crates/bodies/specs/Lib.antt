@@ -2,6 +2,7 @@
 pub mod Body
 pub mod Refusals
 pub mod Decoding
+pub mod Versions
 pub mod WellFormed
 pub mod Code
 pub mod Document01

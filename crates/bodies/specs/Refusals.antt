@@ -15,9 +15,13 @@ use Rattle.bodies.specs.Body.{opcodeOf, flagsOf, lengthOf, countOf, plac
 unfoldable pub lengthRefused : List ℕ → Bool
 lengthRefused body = ltb (length body) 14 || not (eqb (length body) (endOf body + cond (isExtended body) 2 0))
 
--- the longest body whose length can be right: n is a byte, every operand has a mask, and two bytes follow
+-- the most fields whose length can be right: n is a byte, every operand has a mask, and two bytes follow
+abbrev pub longestFields : ℕ
+longestFields = 14 + 6 * 255 + 2
+
+-- the longest body whose length can be right: version 2 has four bytes more
 abbrev pub longestBody : ℕ
-longestBody = 14 + 6 * 255 + 2
+longestBody = 4 + longestFields
 
 -- "Scale .. is 1, 2, 4 or 8."
 abbrev pub isScale : ℕ → Bool

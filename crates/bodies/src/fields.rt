@@ -1,82 +1,69 @@
-// The fields of a body whose length is right.
+// The fields of a body whose length is right, from its front and its rest.
 ghost use mathlib.Core.Path.{_≡_};
 ghost use Rattle.bodies.specs.Code.{Whole};
-ghost use Rattle.bodies.specs.Body.{opcodeOf, flagsOf, lengthOf, sizeOf, immOf, dispOf, countOf, isExtended, bitsOf, tailOf};
+ghost use Rattle.bodies.specs.Body.{sizeOf, immOf, dispOf, countOf, isExtended, bitsOf, tailOf};
+ghost use Rattle.bodies.specs.Code.{fieldsBy, opcodeIn};
+use crate::Front;
 
-pub fn opcode(body: &[u8]) -> u16
-    requires { ⌜ Whole (now body) ⌝ }
-    ensures { λ r. ⌜ r ≡ opcodeOf (now (body .entry)) ⌝ }
+pub fn opcode(front: Front) -> u16
+    ensures { λ r. ⌜ r ≡ opcodeIn front ⌝ }
 {
-    frames::numbers::word_at(body, 0)
+    (front.high as u16) * 256 + front.low as u16
 }
 
-pub fn flags(body: &[u8]) -> u8
-    requires { ⌜ Whole (now body) ⌝ }
-    ensures { λ r. ⌜ r ≡ flagsOf (now (body .entry)) ⌝ }
+pub fn size(front: Front, rest: &[u8]) -> u8
+    requires { ⌜ Whole (fieldsBy front (now rest)) ⌝ }
+    ensures { λ r. ⌜ r ≡ sizeOf (fieldsBy front (now (rest .entry))) ⌝ }
 {
-    body[2]
+    rest[0]
 }
 
-pub fn length(body: &[u8]) -> u8
-    requires { ⌜ Whole (now body) ⌝ }
-    ensures { λ r. ⌜ r ≡ lengthOf (now (body .entry)) ⌝ }
+pub fn imm(front: Front, rest: &[u8]) -> u32
+    requires { ⌜ Whole (fieldsBy front (now rest)) ⌝ }
+    ensures { λ r. ⌜ r ≡ immOf (fieldsBy front (now (rest .entry))) ⌝ }
 {
-    body[3]
+    frames::numbers::dword_at(rest, 1)
 }
 
-pub fn size(body: &[u8]) -> u8
-    requires { ⌜ Whole (now body) ⌝ }
-    ensures { λ r. ⌜ r ≡ sizeOf (now (body .entry)) ⌝ }
+pub fn disp(front: Front, rest: &[u8]) -> u32
+    requires { ⌜ Whole (fieldsBy front (now rest)) ⌝ }
+    ensures { λ r. ⌜ r ≡ dispOf (fieldsBy front (now (rest .entry))) ⌝ }
 {
-    body[4]
+    frames::numbers::dword_at(rest, 5)
 }
 
-pub fn imm(body: &[u8]) -> u32
-    requires { ⌜ Whole (now body) ⌝ }
-    ensures { λ r. ⌜ r ≡ immOf (now (body .entry)) ⌝ }
+pub fn count(front: Front, rest: &[u8]) -> u8
+    requires { ⌜ Whole (fieldsBy front (now rest)) ⌝ }
+    ensures { λ r. ⌜ r ≡ countOf (fieldsBy front (now (rest .entry))) ⌝ }
 {
-    frames::numbers::dword_at(body, 5)
-}
-
-pub fn disp(body: &[u8]) -> u32
-    requires { ⌜ Whole (now body) ⌝ }
-    ensures { λ r. ⌜ r ≡ dispOf (now (body .entry)) ⌝ }
-{
-    frames::numbers::dword_at(body, 9)
-}
-
-pub fn count(body: &[u8]) -> u8
-    requires { ⌜ Whole (now body) ⌝ }
-    ensures { λ r. ⌜ r ≡ countOf (now (body .entry)) ⌝ }
-{
-    body[13]
+    rest[9]
 }
 
 // A record that is extended ends in two bytes more, so its length tells it.
-pub fn is_extended(body: &[u8]) -> bool
-    requires { ⌜ Whole (now body) ⌝ }
-    ensures { λ r. ⌜ r ≡ isExtended (now (body .entry)) ⌝ }
+pub fn is_extended(front: Front, rest: &[u8]) -> bool
+    requires { ⌜ Whole (fieldsBy front (now rest)) ⌝ }
+    ensures { λ r. ⌜ r ≡ isExtended (fieldsBy front (now (rest .entry))) ⌝ }
 {
-    body.len() != 14 + 5 * (frames::numbers::byte_at(body, 13) as usize)
+    rest.len() != 10 + 5 * (frames::numbers::byte_at(rest, 9) as usize)
 }
 
-pub fn bits(body: &[u8]) -> u8
-    requires { ⌜ Whole (now body) ⌝ }
-    ensures { λ r. ⌜ r ≡ bitsOf (now (body .entry)) ⌝ }
+pub fn bits(front: Front, rest: &[u8]) -> u8
+    requires { ⌜ Whole (fieldsBy front (now rest)) ⌝ }
+    ensures { λ r. ⌜ r ≡ bitsOf (fieldsBy front (now (rest .entry))) ⌝ }
 {
-    if is_extended(body) {
-        body[body.len() - 2]
+    if is_extended(front, rest) {
+        rest[rest.len() - 2]
     } else {
         0
     }
 }
 
-pub fn tail(body: &[u8]) -> u8
-    requires { ⌜ Whole (now body) ⌝ }
-    ensures { λ r. ⌜ r ≡ tailOf (now (body .entry)) ⌝ }
+pub fn tail(front: Front, rest: &[u8]) -> u8
+    requires { ⌜ Whole (fieldsBy front (now rest)) ⌝ }
+    ensures { λ r. ⌜ r ≡ tailOf (fieldsBy front (now (rest .entry))) ⌝ }
 {
-    if is_extended(body) {
-        body[body.len() - 1]
+    if is_extended(front, rest) {
+        rest[rest.len() - 1]
     } else {
         0
     }

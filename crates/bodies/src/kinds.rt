@@ -7,8 +7,9 @@ ghost use lib.Dec.{eqb};
 ghost use lib.ListN.{getD};
 ghost use Rattle.operands.specs.RegisterBytes.{bank};
 ghost use Rattle.operands.specs.Parts.{registerOf, immediateKind, immediateOf, maskOf, isMaskRegister, bankWidths, immediateWidths, widthOf};
-ghost use Rattle.bodies.specs.Code.{Whole};
+ghost use Rattle.bodies.specs.Code.{fieldsBy, Whole};
 ghost use Rattle.bodies.specs.Decoding.{operandAt};
+use crate::Front;
 use crate::fields;
 use crate::numbers;
 use crate::stored;
@@ -21,72 +22,72 @@ use operands::kinds::U8;
 use operands::kinds::U16;
 use operands::kinds::U32;
 
-pub fn is_absent_at(body: &[u8], k: u8) -> bool
-    requires { ⌜ Whole (now body) ⌝ }
-    ensures { λ r. ⌜ r ≡ isAbsent (operandAt (now (body .entry)) k) ⌝ }
+pub fn is_absent_at(front: Front, rest: &[u8], k: u8) -> bool
+    requires { ⌜ Whole (fieldsBy front (now rest)) ⌝ }
+    ensures { λ r. ⌜ r ≡ isAbsent (operandAt (fieldsBy front (now (rest .entry))) k) ⌝ }
 {
-    fields::count(body) <= k
+    fields::count(front, rest) <= k
 }
 
-pub fn is_memory_at(body: &[u8], k: u8) -> bool
-    requires { ⌜ Whole (now body) ⌝ }
-    ensures { λ r. ⌜ r ≡ isMemory (operandAt (now (body .entry)) k) ⌝ }
+pub fn is_memory_at(front: Front, rest: &[u8], k: u8) -> bool
+    requires { ⌜ Whole (fieldsBy front (now rest)) ⌝ }
+    ensures { λ r. ⌜ r ≡ isMemory (operandAt (fieldsBy front (now (rest .entry))) k) ⌝ }
 {
-    if k < fields::count(body) {
-        let at = stored::place_at(body, k);
-        ABSOLUTE_16 <= body[at]
+    if k < fields::count(front, rest) {
+        let at = stored::place_at(front, rest, k);
+        ABSOLUTE_16 <= rest[at]
     } else {
         false
     }
 }
 
-pub fn is_register_at(body: &[u8], k: u8) -> bool
-    requires { ⌜ Whole (now body) ⌝ }
-    ensures { λ r. ⌜ r ≡ isRegister (operandAt (now (body .entry)) k) ⌝ }
+pub fn is_register_at(front: Front, rest: &[u8], k: u8) -> bool
+    requires { ⌜ Whole (fieldsBy front (now rest)) ⌝ }
+    ensures { λ r. ⌜ r ≡ isRegister (operandAt (fieldsBy front (now (rest .entry))) k) ⌝ }
 {
-    if k < fields::count(body) {
-        let at = stored::place_at(body, k);
-        body[at] <= REGISTER_M
+    if k < fields::count(front, rest) {
+        let at = stored::place_at(front, rest, k);
+        rest[at] <= REGISTER_M
     } else {
         false
     }
 }
 
 // A register in the R place, kind 1.
-pub fn is_register_r_at(body: &[u8], k: u8) -> bool
-    requires { ⌜ Whole (now body) ⌝ }
-    ensures { λ r. ⌜ r ≡ isRegisterR (operandAt (now (body .entry)) k) ⌝ }
+pub fn is_register_r_at(front: Front, rest: &[u8], k: u8) -> bool
+    requires { ⌜ Whole (fieldsBy front (now rest)) ⌝ }
+    ensures { λ r. ⌜ r ≡ isRegisterR (operandAt (fieldsBy front (now (rest .entry))) k) ⌝ }
 {
-    if k < fields::count(body) {
-        let at = stored::place_at(body, k);
-        body[at] == REGISTER_R
+    if k < fields::count(front, rest) {
+        let at = stored::place_at(front, rest, k);
+        rest[at] == REGISTER_R
     } else {
         false
     }
 }
 
 // A register in the M place, kind 2.
-pub fn is_register_m_at(body: &[u8], k: u8) -> bool
-    requires { ⌜ Whole (now body) ⌝ }
-    ensures { λ r. ⌜ r ≡ isRegisterM (operandAt (now (body .entry)) k) ⌝ }
+pub fn is_register_m_at(front: Front, rest: &[u8], k: u8) -> bool
+    requires { ⌜ Whole (fieldsBy front (now rest)) ⌝ }
+    ensures { λ r. ⌜ r ≡ isRegisterM (operandAt (fieldsBy front (now (rest .entry))) k) ⌝ }
 {
-    if k < fields::count(body) {
-        let at = stored::place_at(body, k);
-        body[at] == REGISTER_M
+    if k < fields::count(front, rest) {
+        let at = stored::place_at(front, rest, k);
+        rest[at] == REGISTER_M
     } else {
         false
     }
 }
 
 // The register byte of kinds 1 and 2, and 0 of any other operand.
-pub fn register_at(body: &[u8], k: u8) -> u8
-    requires { ⌜ Whole (now body) ⌝ }
-    ensures { λ r. ⌜ r ≡ registerOf (operandAt (now (body .entry)) k) ⌝ }
+pub fn register_at(front: Front, rest: &[u8], k: u8) -> u8
+    requires { ⌜ Whole (fieldsBy front (now rest)) ⌝ }
+    ensures { λ r. ⌜ r ≡ registerOf (operandAt (fieldsBy front (now (rest .entry))) k) ⌝ }
 {
-    if k < fields::count(body) {
-        let at = stored::place_at(body, k);
-        if body[at] <= REGISTER_M {
-            body[at + 2]
+    if k < fields::count(front, rest) {
+        let at = stored::place_at(front, rest, k);
+        if rest[at] <= REGISTER_M {
+            rest[at + 2]
         } else {
             0
         }
@@ -96,13 +97,13 @@ pub fn register_at(body: &[u8], k: u8) -> u8
 }
 
 // The kind of an immediate, and 0 of any other operand.
-pub fn immediate_kind_at(body: &[u8], k: u8) -> u8
-    requires { ⌜ Whole (now body) ⌝ }
-    ensures { λ r. ⌜ r ≡ immediateKind (operandAt (now (body .entry)) k) ⌝ }
+pub fn immediate_kind_at(front: Front, rest: &[u8], k: u8) -> u8
+    requires { ⌜ Whole (fieldsBy front (now rest)) ⌝ }
+    ensures { λ r. ⌜ r ≡ immediateKind (operandAt (fieldsBy front (now (rest .entry))) k) ⌝ }
 {
-    if k < fields::count(body) {
-        let at = stored::place_at(body, k);
-        let kind = body[at];
+    if k < fields::count(front, rest) {
+        let at = stored::place_at(front, rest, k);
+        let kind = rest[at];
         if kind <= REGISTER_M {
             0
         } else if kind <= U32 {
@@ -116,17 +117,17 @@ pub fn immediate_kind_at(body: &[u8], k: u8) -> u8
 }
 
 // The value of an immediate, and 0 of any other operand.
-pub fn immediate_at(body: &[u8], k: u8) -> u32
-    requires { ⌜ Whole (now body) ⌝ }
-    ensures { λ r. ⌜ r ≡ immediateOf (operandAt (now (body .entry)) k) ⌝ }
+pub fn immediate_at(front: Front, rest: &[u8], k: u8) -> u32
+    requires { ⌜ Whole (fieldsBy front (now rest)) ⌝ }
+    ensures { λ r. ⌜ r ≡ immediateOf (operandAt (fieldsBy front (now (rest .entry))) k) ⌝ }
 {
-    if k < fields::count(body) {
-        let at = stored::place_at(body, k);
-        let kind = body[at];
+    if k < fields::count(front, rest) {
+        let at = stored::place_at(front, rest, k);
+        let kind = rest[at];
         if kind <= REGISTER_M {
             0
         } else if kind <= U32 {
-            numbers::immediate_of(kind, fields::imm(body))
+            numbers::immediate_of(kind, fields::imm(front, rest))
         } else {
             0
         }
@@ -136,14 +137,14 @@ pub fn immediate_at(body: &[u8], k: u8) -> u32
 }
 
 // Memory without a mask.
-pub fn is_plain_memory_at(body: &[u8], k: u8) -> bool
-    requires { ⌜ Whole (now body) ⌝ }
-    ensures { λ r. ⌜ r ≡ (isMemory (operandAt (now (body .entry)) k) && eqb (maskOf (operandAt (now (body .entry)) k)) 0) ⌝ }
+pub fn is_plain_memory_at(front: Front, rest: &[u8], k: u8) -> bool
+    requires { ⌜ Whole (fieldsBy front (now rest)) ⌝ }
+    ensures { λ r. ⌜ r ≡ (isMemory (operandAt (fieldsBy front (now (rest .entry))) k) && eqb (maskOf (operandAt (fieldsBy front (now (rest .entry))) k)) 0) ⌝ }
 {
-    if k < fields::count(body) {
-        let at = stored::place_at(body, k);
-        let kind = body[at];
-        let mask = stored::mask_at(body, k, at);
+    if k < fields::count(front, rest) {
+        let at = stored::place_at(front, rest, k);
+        let kind = rest[at];
+        let mask = stored::mask_at(front, rest, k, at);
         (ABSOLUTE_16 <= kind) & (mask == 0)
     } else {
         false
@@ -151,13 +152,13 @@ pub fn is_plain_memory_at(body: &[u8], k: u8) -> bool
 }
 
 // A register of bank 9.
-pub fn is_mask_register_at(body: &[u8], k: u8) -> bool
-    requires { ⌜ Whole (now body) ⌝ }
-    ensures { λ r. ⌜ r ≡ isMaskRegister (operandAt (now (body .entry)) k) ⌝ }
+pub fn is_mask_register_at(front: Front, rest: &[u8], k: u8) -> bool
+    requires { ⌜ Whole (fieldsBy front (now rest)) ⌝ }
+    ensures { λ r. ⌜ r ≡ isMaskRegister (operandAt (fieldsBy front (now (rest .entry))) k) ⌝ }
 {
-    if k < fields::count(body) {
-        let at = stored::place_at(body, k);
-        (body[at] <= REGISTER_M) & (body[at + 2] / 8 == 9)
+    if k < fields::count(front, rest) {
+        let at = stored::place_at(front, rest, k);
+        (rest[at] <= REGISTER_M) & (rest[at + 2] / 8 == 9)
     } else {
         false
     }
@@ -208,15 +209,15 @@ fn immediate_width(kind: u8) -> u8
 }
 
 // The width in bytes of a register or an immediate, and 0 of any other operand.
-pub fn width_at(body: &[u8], k: u8) -> u8
-    requires { ⌜ Whole (now body) ⌝ }
-    ensures { λ r. ⌜ r ≡ widthOf (operandAt (now (body .entry)) k) ⌝ }
+pub fn width_at(front: Front, rest: &[u8], k: u8) -> u8
+    requires { ⌜ Whole (fieldsBy front (now rest)) ⌝ }
+    ensures { λ r. ⌜ r ≡ widthOf (operandAt (fieldsBy front (now (rest .entry))) k) ⌝ }
 {
-    if k < fields::count(body) {
-        let at = stored::place_at(body, k);
-        let kind = body[at];
+    if k < fields::count(front, rest) {
+        let at = stored::place_at(front, rest, k);
+        let kind = rest[at];
         if kind <= REGISTER_M {
-            bank_width(body[at + 2])
+            bank_width(rest[at + 2])
         } else if kind <= U32 {
             immediate_width(kind)
         } else {

@@ -1,7 +1,8 @@
 // The parts of an accepted body.
 ghost use mathlib.Core.Path.{_≡_};
-ghost use Rattle.bodies.specs.Code.{Whole};
+ghost use Rattle.bodies.specs.Code.{fieldsBy, Whole};
 ghost use Rattle.bodies.specs.Decoding.{addressOf, operandOf, operandAt};
+use crate::Front;
 use crate::fields;
 use crate::numbers;
 use crate::stored;
@@ -88,22 +89,22 @@ fn operand(
 }
 
 // Operand k of a record that may have masks.
-fn extended_operand_at(body: &[u8], k: u8) -> Operand
-    requires { ⌜ Whole (now body) ⌝ }
-    ensures { λ r. ⌜ r ≡ operandAt (now (body .entry)) k ⌝ }
+fn extended_operand_at(front: Front, rest: &[u8], k: u8) -> Operand
+    requires { ⌜ Whole (fieldsBy front (now rest)) ⌝ }
+    ensures { λ r. ⌜ r ≡ operandAt (fieldsBy front (now (rest .entry))) k ⌝ }
 {
-    if k < fields::count(body) {
-        let at = stored::place_at(body, k);
-        let kind = body[at];
-        let mask = stored::mask_at(body, k, at);
+    if k < fields::count(front, rest) {
+        let at = stored::place_at(front, rest, k);
+        let kind = rest[at];
+        let mask = stored::mask_at(front, rest, k, at);
         operand(
-            fields::imm(body),
-            fields::disp(body),
+            fields::imm(front, rest),
+            fields::disp(front, rest),
             kind,
-            body[at + 1],
-            body[at + 2],
-            body[at + 3],
-            body[at + 4],
+            rest[at + 1],
+            rest[at + 2],
+            rest[at + 3],
+            rest[at + 4],
             mask,
         )
     } else {
@@ -112,23 +113,23 @@ fn extended_operand_at(body: &[u8], k: u8) -> Operand
 }
 
 // Operand k. A record that is not extended has no masks before it, so it stands where document 01 has it.
-pub fn operand_at(body: &[u8], k: u8) -> Operand
-    requires { ⌜ Whole (now body) ⌝ }
-    ensures { λ r. ⌜ r ≡ operandAt (now (body .entry)) k ⌝ }
+pub fn operand_at(front: Front, rest: &[u8], k: u8) -> Operand
+    requires { ⌜ Whole (fieldsBy front (now rest)) ⌝ }
+    ensures { λ r. ⌜ r ≡ operandAt (fieldsBy front (now (rest .entry))) k ⌝ }
 {
-    if k < fields::count(body) {
-        if fields::is_extended(body) {
-            return extended_operand_at(body, k);
+    if k < fields::count(front, rest) {
+        if fields::is_extended(front, rest) {
+            return extended_operand_at(front, rest, k);
         }
-        let at = 14 + 5 * (k as usize);
+        let at = 10 + 5 * (k as usize);
         operand(
-            fields::imm(body),
-            fields::disp(body),
-            body[at],
-            body[at + 1],
-            body[at + 2],
-            body[at + 3],
-            body[at + 4],
+            fields::imm(front, rest),
+            fields::disp(front, rest),
+            rest[at],
+            rest[at + 1],
+            rest[at + 2],
+            rest[at + 3],
+            rest[at + 4],
             0,
         )
     } else {

@@ -6,63 +6,64 @@ ghost use lib.Dec.{eqb};
 ghost use lib.ListN.{length};
 ghost use Rattle.bodies.specs.Body.{opcodeOf, isScatter, isExtended};
 ghost use Rattle.bodies.specs.Refusals.{lengthRefused, fieldRefused, operandRefused, segmentKept, registerKept, indexKept, firstKept, secondKept, scaleKept, maskKept, flagsKept};
-ghost use Rattle.bodies.specs.Code.{Whole, OldWhole, bodyAnswer};
+ghost use Rattle.bodies.specs.Code.{fieldsBy, Whole, OldWhole, bodyAnswer};
 ghost use Rattle.bodies.specs.Document01.{oldFirstKept, oldSecondKept, oldOperandRefused, oldFieldRefused, oldLengthRefused};
+use crate::Front;
 use crate::fields;
 use crate::stored;
 use names::opcodes::OPCODES;
 
-// The longest body whose length can be right: the count is a byte, and every operand may have a mask.
-pub const LONGEST_BODY: usize = 1546;
+// The longest body whose length can be right, which is one of version 2: the count is a byte, and every operand may have a mask.
+pub const LONGEST_BODY: usize = 1550;
 
 // A body in which an operand has a mask is walked: where an operand stands, the masks before it say. One whose bytes end before its
 // operands do is refused, whatever the kinds of the others would be.
-fn walked_refused(body: &[u8]) -> bool
-    requires { ⌜ 14 ≤ length (now body) ⌝ }
-    ensures { λ r. ⌜ r ≡ lengthRefused (now (body .entry)) ⌝ }
+fn walked_refused(front: Front, rest: &[u8]) -> bool
+    requires { ⌜ 10 ≤ length (now rest) ⌝ }
+    ensures { λ r. ⌜ r ≡ lengthRefused (fieldsBy front (now (rest .entry))) ⌝ }
 {
-    let count = frames::numbers::byte_at(body, 13);
+    let count = frames::numbers::byte_at(rest, 9);
     let mut masked = false;
-    let mut at = 14;
+    let mut at = 10;
     let mut k = 0;
     while k < count {
-        if body.len() <= at {
+        if rest.len() <= at {
             return true;
         }
-        masked = masked | stored::is_masked(body[at]);
-        at = stored::place_after(body, at);
+        masked = masked | stored::is_masked(rest[at]);
+        at = stored::place_after(rest, at);
         k += 1;
     }
-    if stored::is_vector_opcode(frames::numbers::word_at(body, 0)) | masked {
-        body.len() != at + 2
+    if stored::is_vector_opcode(fields::opcode(front)) | masked {
+        rest.len() != at + 2
     } else {
-        body.len() != at
+        rest.len() != at
     }
 }
 
 // Until an operand has a mask, each takes five bytes.
-pub fn length_refused(body: &[u8]) -> bool
-    ensures { λ r. ⌜ r ≡ lengthRefused (now (body .entry)) ⌝ }
+pub fn length_refused(front: Front, rest: &[u8]) -> bool
+    ensures { λ r. ⌜ r ≡ lengthRefused (fieldsBy front (now (rest .entry))) ⌝ }
 {
-    if body.len() < 14 {
+    if rest.len() < 10 {
         return true;
     }
-    let count = frames::numbers::byte_at(body, 13) as usize;
-    let end = 14 + 5 * count;
-    if body.len() < end {
+    let count = frames::numbers::byte_at(rest, 9) as usize;
+    let end = 10 + 5 * count;
+    if rest.len() < end {
         return true;
     }
     let mut k = 0;
     while k < count {
-        if stored::is_masked(body[14 + 5 * k]) {
-            return walked_refused(body);
+        if stored::is_masked(rest[10 + 5 * k]) {
+            return walked_refused(front, rest);
         }
         k += 1;
     }
-    if stored::is_vector_opcode(frames::numbers::word_at(body, 0)) {
-        body.len() != end + 2
+    if stored::is_vector_opcode(fields::opcode(front)) {
+        rest.len() != end + 2
     } else {
-        body.len() != end
+        rest.len() != end
     }
 }
 
@@ -134,22 +135,22 @@ fn mask_kept(kind: u8, mask: u8) -> bool
 }
 
 // Operand k, where it is stored. A VPSCATTER's operand 0 scatters.
-fn operand_refused(body: &[u8], k: u8, extended: bool, scatters: bool) -> bool
-    requires { ⌜ Whole (now body) ⌝ }
-    requires { ⌜ extended ≡ isExtended (now body) ⌝ }
-    requires { ⌜ scatters ≡ (eqb k 0 && isScatter (opcodeOf (now body))) ⌝ }
-    ensures { λ r. ⌜ r ≡ operandRefused (now (body .entry)) k ⌝ }
+fn operand_refused(front: Front, rest: &[u8], k: u8, extended: bool, scatters: bool) -> bool
+    requires { ⌜ Whole (fieldsBy front (now rest)) ⌝ }
+    requires { ⌜ extended ≡ isExtended (fieldsBy front (now rest)) ⌝ }
+    requires { ⌜ scatters ≡ (eqb k 0 && isScatter (opcodeOf (fieldsBy front (now rest)))) ⌝ }
+    ensures { λ r. ⌜ r ≡ operandRefused (fieldsBy front (now (rest .entry))) k ⌝ }
 {
-    if k < fields::count(body) {
-        let at = stored::place_at(body, k);
-        let kind = body[at];
+    if k < fields::count(front, rest) {
+        let at = stored::place_at(front, rest, k);
+        let kind = rest[at];
         let vectors = scatters & !stored::is_masked(kind);
         let form = stored::form_of(kind);
-        let segment = segment_kept(form, body[at + 1]);
-        let first = first_kept(extended, vectors, form, body[at + 2]);
-        let second = second_kept(vectors, form, body[at + 3]);
-        let scale = scale_kept(form, body[at + 4]);
-        let mask = mask_kept(kind, stored::mask_at(body, k, at));
+        let segment = segment_kept(form, rest[at + 1]);
+        let first = first_kept(extended, vectors, form, rest[at + 2]);
+        let second = second_kept(vectors, form, rest[at + 3]);
+        let scale = scale_kept(form, rest[at + 4]);
+        let mask = mask_kept(kind, stored::mask_at(front, rest, k, at));
         !((1 <= kind) & (kind <= 22) & segment & first & second & scale & mask)
     } else {
         false
@@ -162,22 +163,22 @@ fn flags_kept(extended: bool, flags: u8) -> bool
     if extended { flags < 128 } else { flags < 64 }
 }
 
-pub fn field_refused(body: &[u8]) -> bool
-    requires { ⌜ Whole (now body) ⌝ }
-    ensures { λ r. ⌜ r ≡ fieldRefused (now (body .entry)) ⌝ }
+pub fn field_refused(front: Front, rest: &[u8]) -> bool
+    requires { ⌜ Whole (fieldsBy front (now rest)) ⌝ }
+    ensures { λ r. ⌜ r ≡ fieldRefused (fieldsBy front (now (rest .entry))) ⌝ }
 {
-    let opcode = fields::opcode(body);
-    let extended = fields::is_extended(body);
+    let opcode = fields::opcode(front);
+    let extended = fields::is_extended(front, rest);
     let scatters = (stored::VECTOR_LEAST <= opcode) & (opcode <= stored::SCATTER_MOST);
-    let flags = flags_kept(extended, body[2]);
-    let length = body[3];
-    let count = body[13];
-    let a = operand_refused(body, 0, extended, scatters);
-    let b = operand_refused(body, 1, extended, false);
-    let c = operand_refused(body, 2, extended, false);
-    let d = operand_refused(body, 3, extended, false);
-    let bits = fields::bits(body);
-    let tail = fields::tail(body);
+    let flags = flags_kept(extended, front.flags);
+    let length = front.length;
+    let count = rest[9];
+    let a = operand_refused(front, rest, 0, extended, scatters);
+    let b = operand_refused(front, rest, 1, extended, false);
+    let c = operand_refused(front, rest, 2, extended, false);
+    let d = operand_refused(front, rest, 3, extended, false);
+    let bits = fields::bits(front, rest);
+    let tail = fields::tail(front, rest);
     (OPCODES <= opcode as usize)
         | !flags
         | (length < 1)
@@ -212,64 +213,64 @@ fn old_second_kept(kind: u8, second: u8) -> bool
 }
 
 // Operand k, where it is stored.
-fn old_operand_refused(body: &[u8], k: usize) -> bool
-    requires { ⌜ OldWhole (now body) ⌝ }
-    ensures { λ r. ⌜ r ≡ oldOperandRefused (now (body .entry)) k ⌝ }
+fn old_operand_refused(front: Front, rest: &[u8], k: usize) -> bool
+    requires { ⌜ OldWhole (fieldsBy front (now rest)) ⌝ }
+    ensures { λ r. ⌜ r ≡ oldOperandRefused (fieldsBy front (now (rest .entry))) k ⌝ }
 {
-    if k < (frames::numbers::byte_at(body, 13) as usize) {
-        let at = 14 + 5 * k;
-        let kind = body[at];
-        let segment = segment_kept(kind, body[at + 1]);
-        let first = old_first_kept(kind, body[at + 2]);
-        let second = old_second_kept(kind, body[at + 3]);
-        let scale = scale_kept(kind, body[at + 4]);
+    if k < (frames::numbers::byte_at(rest, 9) as usize) {
+        let at = 10 + 5 * k;
+        let kind = rest[at];
+        let segment = segment_kept(kind, rest[at + 1]);
+        let first = old_first_kept(kind, rest[at + 2]);
+        let second = old_second_kept(kind, rest[at + 3]);
+        let scale = scale_kept(kind, rest[at + 4]);
         !((1 <= kind) & (kind <= 16) & segment & first & second & scale)
     } else {
         false
     }
 }
 
-fn old_field_refused(body: &[u8]) -> bool
-    requires { ⌜ OldWhole (now body) ⌝ }
-    ensures { λ r. ⌜ r ≡ oldFieldRefused (now (body .entry)) ⌝ }
+fn old_field_refused(front: Front, rest: &[u8]) -> bool
+    requires { ⌜ OldWhole (fieldsBy front (now rest)) ⌝ }
+    ensures { λ r. ⌜ r ≡ oldFieldRefused (fieldsBy front (now (rest .entry))) ⌝ }
 {
-    let opcode = frames::numbers::word_at(body, 0);
-    let flags = body[2];
-    let length = body[3];
-    let number = body[13];
-    let a = old_operand_refused(body, 0);
-    let b = old_operand_refused(body, 1);
-    let c = old_operand_refused(body, 2);
-    let d = old_operand_refused(body, 3);
+    let opcode = fields::opcode(front);
+    let flags = front.flags;
+    let length = front.length;
+    let number = rest[9];
+    let a = old_operand_refused(front, rest, 0);
+    let b = old_operand_refused(front, rest, 1);
+    let c = old_operand_refused(front, rest, 2);
+    let d = old_operand_refused(front, rest, 3);
     (154 <= opcode) | (64 <= flags) | (length < 1) | (15 < length) | (4 < number) | a | b | c | d
 }
 
 // No kind is walked over here: the four rules of operands know no mask.
-fn is_old(body: &[u8]) -> bool
-    ensures { λ r. ⌜ r ≡ (not (oldLengthRefused (now (body .entry))) && not (oldFieldRefused (now (body .entry)))) ⌝ }
+fn is_old(front: Front, rest: &[u8]) -> bool
+    ensures { λ r. ⌜ r ≡ (not (oldLengthRefused (fieldsBy front (now (rest .entry)))) && not (oldFieldRefused (fieldsBy front (now (rest .entry))))) ⌝ }
 {
-    if body.len() < 14 {
+    if rest.len() < 10 {
         return false;
     }
-    if body.len() != 14 + 5 * (frames::numbers::byte_at(body, 13) as usize) {
+    if rest.len() != 10 + 5 * (frames::numbers::byte_at(rest, 9) as usize) {
         return false;
     }
-    !old_field_refused(body)
+    !old_field_refused(front, rest)
 }
 
 // ---- Both answers
 
 // The first of answers 2 and 3 that applies, and 0 where neither does.
-pub fn refused(body: &[u8]) -> u8
-    ensures { λ r. ⌜ r ≡ bodyAnswer (now (body .entry)) ⌝ }
+pub fn refused(front: Front, rest: &[u8]) -> u8
+    ensures { λ r. ⌜ r ≡ bodyAnswer (fieldsBy front (now (rest .entry))) ⌝ }
 {
-    if is_old(body) {
+    if is_old(front, rest) {
         return 0;
     }
-    if length_refused(body) {
+    if length_refused(front, rest) {
         return 2;
     }
-    if field_refused(body) {
+    if field_refused(front, rest) {
         return 3;
     }
     0

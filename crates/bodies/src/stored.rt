@@ -1,10 +1,12 @@
-// Where the operands of a body stand: after one another, with five bytes each, or six where the kind has a mask.
+// Where the operands of a body stand: after one another, with five bytes each, or six where the kind has a mask. Places here are those of
+// the rest: the fields have four bytes before it.
 ghost use mathlib.Core.Path.{_≡_};
 ghost use Prim.Native.Nat.{_+_, _^_, _≤_, _<_};
 ghost use lib.ListN.{length};
 ghost use Rattle.operands.specs.Kinds.{isMasked, form};
-ghost use Rattle.bodies.specs.Code.{Whole};
+ghost use Rattle.bodies.specs.Code.{fieldsBy, inFields, Whole};
 ghost use Rattle.bodies.specs.Body.{countOf, placeAfter, placeOf, maskAt, isVectorOpcode};
+use crate::Front;
 use operands::kinds::MASKED_LEAST;
 use operands::kinds::MASKED_MOST;
 
@@ -35,24 +37,24 @@ pub fn is_vector_opcode(opcode: u16) -> bool
 }
 
 // The place after the operand that begins at a place.
-pub fn place_after(body: &[u8], at: usize) -> usize
-    requires { ⌜ at < length (now body) ⌝ }
+pub fn place_after(rest: &[u8], at: usize) -> usize
+    requires { ⌜ at < length (now rest) ⌝ }
     requires { ⌜ at < 2 ^ 16 ⌝ }
-    ensures { λ r. ⌜ r ≡ placeAfter (now (body .entry)) at ⌝ }
+    ensures { λ r. ⌜ r ≡ placeAfter (now (rest .entry)) at ⌝ }
 {
-    if is_masked(body[at]) { at + 6 } else { at + 5 }
+    if is_masked(rest[at]) { at + 6 } else { at + 5 }
 }
 
 // Operand by operand.
-fn walk_to(body: &[u8], k: u8) -> usize
-    requires { ⌜ Whole (now body) ⌝ }
-    requires { ⌜ k < countOf (now body) ⌝ }
-    ensures { λ r. ⌜ r ≡ placeOf (now (body .entry)) k ⌝ }
+fn walk_to(front: Front, rest: &[u8], k: u8) -> usize
+    requires { ⌜ Whole (fieldsBy front (now rest)) ⌝ }
+    requires { ⌜ k < countOf (fieldsBy front (now rest)) ⌝ }
+    ensures { λ r. ⌜ inFields r ≡ placeOf (fieldsBy front (now (rest .entry))) k ⌝ }
 {
-    let mut at = 14;
+    let mut at = 10;
     let mut i = 0;
     while i < k {
-        at = place_after(body, at);
+        at = place_after(rest, at);
         i += 1;
     }
     at
@@ -60,25 +62,25 @@ fn walk_to(body: &[u8], k: u8) -> usize
 
 // A mask is one byte more and makes the record extended, which is two more: where there are two at most, no operand has a mask, and
 // there is nothing to walk.
-pub fn place_at(body: &[u8], k: u8) -> usize
-    requires { ⌜ Whole (now body) ⌝ }
-    requires { ⌜ k < countOf (now body) ⌝ }
-    ensures { λ r. ⌜ r ≡ placeOf (now (body .entry)) k ⌝ }
-    ensures { λ r. ⌜ r + 5 ≤ length (now (body .entry)) ⌝ }
+pub fn place_at(front: Front, rest: &[u8], k: u8) -> usize
+    requires { ⌜ Whole (fieldsBy front (now rest)) ⌝ }
+    requires { ⌜ k < countOf (fieldsBy front (now rest)) ⌝ }
+    ensures { λ r. ⌜ inFields r ≡ placeOf (fieldsBy front (now (rest .entry))) k ⌝ }
+    ensures { λ r. ⌜ r + 5 ≤ length (now (rest .entry)) ⌝ }
 {
-    if body.len() <= 16 + 5 * (frames::numbers::byte_at(body, 13) as usize) {
-        14 + 5 * (k as usize)
+    if rest.len() <= 12 + 5 * (frames::numbers::byte_at(rest, 9) as usize) {
+        10 + 5 * (k as usize)
     } else {
-        walk_to(body, k)
+        walk_to(front, rest, k)
     }
 }
 
 // The register byte of operand k's mask, 0 of a kind that has none. The operand stands at the place.
-pub fn mask_at(body: &[u8], k: u8, at: usize) -> u8
-    requires { ⌜ Whole (now body) ⌝ }
-    requires { ⌜ k < countOf (now body) ⌝ }
-    requires { ⌜ at ≡ placeOf (now body) k ⌝ }
-    ensures { λ r. ⌜ r ≡ maskAt (now (body .entry)) k ⌝ }
+pub fn mask_at(front: Front, rest: &[u8], k: u8, at: usize) -> u8
+    requires { ⌜ Whole (fieldsBy front (now rest)) ⌝ }
+    requires { ⌜ k < countOf (fieldsBy front (now rest)) ⌝ }
+    requires { ⌜ inFields at ≡ placeOf (fieldsBy front (now rest)) k ⌝ }
+    ensures { λ r. ⌜ r ≡ maskAt (fieldsBy front (now (rest .entry))) k ⌝ }
 {
-    if is_masked(body[at]) { body[at + 5] } else { 0 }
+    if is_masked(rest[at]) { rest[at + 5] } else { 0 }
 }

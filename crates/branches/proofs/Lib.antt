@@ -1,4 +1,5 @@
 pub mod Sums
+pub mod Modulo
 pub mod Words
 pub mod Compared
 pub mod Wrapping

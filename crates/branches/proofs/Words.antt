@@ -13,9 +13,7 @@ use Rattle.names.specs.Among.{isOneOf}
 use Rattle.names.specs.declared.Arm.{Arm}
 use Rattle.names.specs.declared.Arm.the-variants.{Call, Xbegin}
 use Rattle.names.proofs.ArmGroups.{tag, of-group, others}
-use Rattle.branches.specs.declared.Mode.{Mode}
-use Rattle.branches.specs.declared.Mode.the-variants.{Straight}
-use Rattle.branches.specs.Sums.{below0, crateWord, straightWord, branchWord}
+use Rattle.branches.specs.Sums.{below0, crateWord, straightWord, armWord}
 
 -- a sum is from 128 to 255 if it has no minus and its size is
 pub crate-word :
@@ -24,16 +22,16 @@ pub crate-word :
 crate-word kind size minus (pos n) m s = rw (m, s, and-true (eqb kind i32), and-assoc (eqb kind i32) (leb 128 n) (leb n 255))
 crate-word kind size minus (negsuc n) m s = rw (m, s, and-false (eqb kind i32))
 
--- the arms that print neither word in mode 1
+-- the arms that print neither word in modes 1 and 2
 abbrev pub bare : List Arm
 bare = Call ∷ Xbegin ∷ []
 
-module _ (arm : Arm) {mode : Mode} (is : mode ≡ Straight) (kind : ℕ) (sum : ℤ) where
-  by-arm : (b : Bool) → isOneOf arm bare ≡ b → branchWord mode arm kind sum ≡ cond b None (straightWord kind)
-  by-arm b e = rw (is, e)
+module _ (arm : Arm) (kind : ℕ) where
+  by-arm : (b : Bool) → isOneOf arm bare ≡ b → armWord arm kind ≡ cond b None (straightWord kind)
+  by-arm b e = rw e
 
-  pub word-none : OneOf (map tag bare) (tag arm) → branchWord mode arm kind sum ≡ None
+  pub word-none : OneOf (map tag bare) (tag arm) → armWord arm kind ≡ None
   word-none keys = by-arm true (of-group (λ (x : Arm). isOneOf x bare) true bare arm tt keys)
 
-  pub word-by-kind : OneOf (map tag (others bare)) (tag arm) → branchWord mode arm kind sum ≡ straightWord kind
+  pub word-by-kind : OneOf (map tag (others bare)) (tag arm) → armWord arm kind ≡ straightWord kind
   word-by-kind keys = by-arm false (of-group (λ (x : Arm). isOneOf x bare) false (others bare) arm tt keys)

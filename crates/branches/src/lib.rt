@@ -1,9 +1,10 @@
-// What a relative branch shows: the word before `$`, and the sign and the size of distance plus length, in document 01's two modes.
+// What a relative branch shows: in document 01's two modes the word before `$`, and the sign and the size of distance plus length; in
+// document 02's mode 2 the same word and the target.
 ghost use mathlib.Core.Path.{_≡_};
 ghost use mathlib.Core.Bool.{true, false};
 ghost use Prim.Native.Nat.{_+_};
 ghost use lib.IntN.{ℤ, pos, natAbs, _+ℤ_};
-ghost use Rattle.branches.specs.Sums.{signed, below0, branchSum, straightWord, branchWord, branchShown};
+ghost use Rattle.branches.specs.Sums.{signed, below0, branchSum, straightWord, armWord, branchWord, targetOf, shownSum, branchShown};
 ghost use Rattle.branches.specs.Code.{parts, parted};
 use names::Arm;
 use operands::BranchWord;
@@ -11,10 +12,12 @@ use operands::Shown;
 use operands::kinds::I8;
 use operands::kinds::I32;
 
-// Document 01's modes: 0 is the crate's, 1 shows where a branch goes and, since document 02, how long it is.
+// Document 01's modes: 0 is the crate's, 1 shows where a branch goes and, since document 02, how long it is. Document 02's mode 2 shows
+// its target.
 pub enum Mode {
     Crate,
     Straight,
+    Target,
 }
 
 // Distance plus length, by its sign and its size.
@@ -23,15 +26,37 @@ pub struct Sum {
     pub size: u32,
 }
 
-// A branch operand: the arm that shows it, its kind, its distance as 32 bits, and the instruction's length.
-pub fn branch_shown(mode: Mode, arm: Arm, kind: u8, value: u32, length: u8) -> Shown
-    ensures { λ r. ⌜ r ≡ branchShown mode arm kind value length ⌝ }
+// A branch operand: the arm that shows it, its kind, its distance as 32 bits, the instruction's length and its start address.
+pub fn branch_shown(mode: Mode, arm: Arm, kind: u8, value: u32, length: u8, start: u32) -> Shown
+    ensures { λ r. ⌜ r ≡ branchShown mode arm kind value length start ⌝ }
+{
+    match mode {
+        Mode::Crate => sum_shown(mode, arm, kind, value, length),
+        Mode::Straight => sum_shown(mode, arm, kind, value, length),
+        Mode::Target => {
+            let word = arm_word(arm, kind);
+            let target = target_of(start, length, value);
+            Shown::Target { word, target }
+        }
+    }
+}
+
+fn sum_shown(mode: Mode, arm: Arm, kind: u8, value: u32, length: u8) -> Shown
+    ensures { λ r. ⌜ r ≡ shownSum mode arm kind (branchSum mode kind value length) ⌝ }
 {
     let sum = branch_sum(mode, kind, value, length);
     let minus = sum.minus;
     let size = sum.size;
     let word = branch_word(mode, arm, kind, minus, size);
     Shown::Branch { word, minus, size }
+}
+
+// Where the branch goes: the next instruction plus the distance, both wrapped in 32 bits.
+fn target_of(start: u32, length: u8, value: u32) -> u32
+    ensures { λ r. ⌜ r ≡ targetOf start length value ⌝ }
+{
+    let next = std::num::wrapping_add_u32(start, length as u32);
+    std::num::wrapping_add_u32(next, value)
 }
 
 fn branch_sum(mode: Mode, kind: u8, value: u32, length: u8) -> Sum
@@ -41,6 +66,7 @@ fn branch_sum(mode: Mode, kind: u8, value: u32, length: u8) -> Sum
         match mode {
             Mode::Crate => short_sum(value, length),
             Mode::Straight => whole_sum(value, length),
+            Mode::Target => whole_sum(value, length),
         }
     } else {
         long_sum(value, length)
@@ -59,12 +85,18 @@ fn branch_word(mode: Mode, arm: Arm, kind: u8, minus: bool, size: u32) -> Branch
                 BranchWord::None
             }
         }
-        Mode::Straight => {
-            match arm {
-                Arm::Call | Arm::Xbegin => BranchWord::None,
-                _ => straight_word(kind),
-            }
-        }
+        Mode::Straight => arm_word(arm, kind),
+        Mode::Target => arm_word(arm, kind),
+    }
+}
+
+// CALL and XBEGIN have no short form.
+fn arm_word(arm: Arm, kind: u8) -> BranchWord
+    ensures { λ r. ⌜ r ≡ armWord arm kind ⌝ }
+{
+    match arm {
+        Arm::Call | Arm::Xbegin => BranchWord::None,
+        _ => straight_word(kind),
     }
 }
 

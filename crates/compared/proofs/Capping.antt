@@ -10,7 +10,7 @@ use borrow.Author.Tests.{lt-ltb, le-ltb, ltb-true, ltb-false}
 use lib.ListN.{length, drop, length-append}
 use Rattle.text.specs.Words.{bytes, empty}
 use Rattle.frames.specs.Frames.{frameSize}
-use Rattle.records.specs.declared.Asked.{Asked}
+use Rattle.compared.specs.declared.AskedSides.{AskedSides}
 use Rattle.compared.specs.declared.Side.{Side}
 use Rattle.compared.specs.Places.{frontRecord, isCut}
 use Rattle.compared.specs.Events.{Naming, naming, Event, eventsAt}
@@ -63,17 +63,17 @@ module _ (m n : ℕ) (same : capped m ≡ capped n) where
 capped-suc : (m n : ℕ) → capped m ≡ capped n → capped (suc m) ≡ capped (suc n)
 capped-suc m n e = omega (arith, e)
 
-module _ (asked : Asked) where
-  alike-within : (f m n : ℕ) → capped m ≡ capped n → (xs ys : List ℕ) → Alike (walkWithin f asked m xs ys) (walkWithin f asked n xs ys)
+module _ (sides : AskedSides) where
+  alike-within : (f m n : ℕ) → capped m ≡ capped n → (xs ys : List ℕ) → Alike (walkWithin f sides m xs ys) (walkWithin f sides n xs ys)
   unfolding walkWithin
   alike-within zero m n same xs ys = alike-self _
   alike-within (suc f) m n same xs ys =
       alike-cond (isCut xs || isCut ys) (alike-self _)
       (alike-cond (empty xs && empty ys) (alike-self _)
-      (alike-before m n same (naming asked (frontRecord xs) (frontRecord ys))
+      (alike-before m n same (naming sides (frontRecord xs) (frontRecord ys))
       (alike-within f (suc m) (suc n) (capped-suc m n same) (drop (frameSize xs) xs) (drop (frameSize ys) ys))))
 
-  pub alike-walk : (m n : ℕ) → capped m ≡ capped n → (xs ys : List ℕ) → Alike (walk asked m xs ys) (walk asked n xs ys)
+  pub alike-walk : (m n : ℕ) → capped m ≡ capped n → (xs ys : List ℕ) → Alike (walk sides m xs ys) (walk sides n xs ys)
   unfolding walk
   alike-walk m n same xs ys = alike-within (length xs + length ys) m n same xs ys
 

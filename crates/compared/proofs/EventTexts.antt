@@ -19,6 +19,7 @@ use Rattle.records.specs.Lines.{recordLine}
 use Rattle.records.specs.Judged.{textOf}
 use Rattle.records.proofs.Texts.{put-front}
 use Rattle.records.proofs.RecordLines.{record-line-short}
+use Rattle.compared.specs.declared.AskedSides.{AskedSides}
 use Rattle.compared.specs.Places.{Found}
 use Rattle.compared.specs.Places.Found.{found, none}
 use Rattle.compared.specs.Events.{Kind, Naming, kindOf, naming, eventsAt}
@@ -58,7 +59,7 @@ module _ (first second : List ℕ) where
       (λ e. omega (arith, length-append first (bytes "  second: " ++ second), h, l))
 
 -- the lines that stand at the start of two arrays are the records'
-pub kind-aside : {asked : Asked} {first second : List ℕ} {r s : ℕ} {xs ys : List ℕ} → LineAside asked first r xs → LineAside asked second s ys → kindText (kindOf (take r xs) (take s ys)) ≡ kindText (kindOf (recordLine asked first) (recordLine asked second))
+pub kind-aside : {asked asked′ : Asked} {first second : List ℕ} {r s : ℕ} {xs ys : List ℕ} → LineAside asked first r xs → LineAside asked′ second s ys → kindText (kindOf (take r xs) (take s ys)) ≡ kindText (kindOf (recordLine asked first) (recordLine asked′ second))
 kind-aside one two = rw (one .text, two .text)
 
 -- "record " and 20 digits
@@ -67,17 +68,21 @@ unfolding headText
 head-most number h = omega (arith, length-append (bytes "record ") (decimal number), number-short number h)
 
 -- a step has room for what is said of a record
-module _ (asked : Asked) (number : ℕ) (fits : number < 2 ^ 64) where
-  pub differing-most : (first second : List ℕ) → length (differingText asked number first second) ≤ longestEvent
+module _ (sides : AskedSides) (number : ℕ) (fits : number < 2 ^ 64) where
+  pub differing-most : (first second : List ℕ) → length (differingText sides number first second) ≤ longestEvent
   unfolding differingText
   differing-most first second =
       omega (
         arith,
-        length-append (headText number) (kindText (kindOf (recordLine asked first) (recordLine asked second))),
+        length-append (headText number) (kindText (kindOf (recordLine (sides .first) first) (recordLine (sides .second) second))),
         head-most number fits,
-        kind-most (recordLine asked first) (recordLine asked second) (record-line-short asked first) (record-line-short asked second),
+        kind-most (recordLine (sides .first) first) (recordLine (sides .second) second) (record-line-short (sides .first) first) (record-line-short (sides .second) second),
       )
 
+  pub differing-room : {xs : List ℕ} {at : ℕ} (first second : List ℕ) → at + longestEvent ≤ length xs → Room xs at (differingText sides number first second)
+  differing-room first second long = record { fits = omega (arith, long, differing-most first second) }
+
+module _ (asked : Asked) (number : ℕ) (fits : number < 2 ^ 64) where
   pub only-most : (words body : List ℕ) → length words ≤ 30 → length (onlyText asked number words body) ≤ longestEvent
   unfolding onlyText
   only-most words body h =
@@ -90,9 +95,6 @@ module _ (asked : Asked) (number : ℕ) (fits : number < 2 ^ 64) where
         record-line-short asked body,
       )
 
-  pub differing-room : {xs : List ℕ} {at : ℕ} (first second : List ℕ) → at + longestEvent ≤ length xs → Room xs at (differingText asked number first second)
-  differing-room first second long = record { fits = omega (arith, long, differing-most first second) }
-
   pub only-room : {xs : List ℕ} {at : ℕ} (words body : List ℕ) → length words ≤ 30 → at + longestEvent ≤ length xs → Room xs at (onlyText asked number words body)
   only-room words body h long = record { fits = omega (arith, long, only-most words body h) }
 
@@ -104,11 +106,11 @@ abbrev pub secondWords : List ℕ
 secondWords = bytes " only in the second" ++ (newline ++ bytes "  second: ")
 
 -- What is said of each pair, by its naming. Only a record that is named is counted.
-module _ (asked : Asked) (number : ℕ) where
-  events-same : (a b : List ℕ) → same a b ≡ true → eventsAt number (naming asked (found a) (found b)) ≡ []
+module _ (sides : AskedSides) (number : ℕ) where
+  events-same : (a b : List ℕ) → same a b ≡ true → eventsAt number (naming sides (found a) (found b)) ≡ []
   events-same a b e = rw e
 
-  events-differ : (a b : List ℕ) → same a b ≡ false → eventsAt number (naming asked (found a) (found b)) ≡ record { number = number; kind = kindOf (recordLine asked a) (recordLine asked b) } ∷ []
+  events-differ : (a b : List ℕ) → same a b ≡ false → eventsAt number (naming sides (found a) (found b)) ≡ record { number = number; kind = kindOf (recordLine (sides .first) a) (recordLine (sides .second) b) } ∷ []
   events-differ a b e = rw e
 
   named-text : (kind : Kind) → eventsText (eventsAt number (named kind)) ≡ headText (capped number) ++ kindText kind
@@ -121,48 +123,48 @@ module _ (asked : Asked) (number : ℕ) where
       (omega (arith, length-append (headText (capped number)) (kindText kind), head-most (capped number) (omega arith), h))
 
   -- a step has room for it, whatever the number
-  pub events-most : (first second : Found) → length (eventsText (eventsAt number (naming asked first second))) ≤ longestEvent
+  pub events-most : (first second : Found) → length (eventsText (eventsAt number (naming sides first second))) ≤ longestEvent
   unfolding eventsText kindText
   events-most (found a) (found b) =
       cond-by (λ (n : Naming). length (eventsText (eventsAt number n)) ≤ longestEvent) (same a b)
       (λ e. lit≤ tt)
-      (λ e. named-most (kindOf (recordLine asked a) (recordLine asked b)) (kind-most (recordLine asked a) (recordLine asked b) (record-line-short asked a) (record-line-short asked b)))
-  events-most (found a) none = named-most (onlyFirst (recordLine asked a)) (omega (arith, record-line-short asked a))
-  events-most none (found b) = named-most (onlySecond (recordLine asked b)) (omega (arith, record-line-short asked b))
+      (λ e. named-most (kindOf (recordLine (sides .first) a) (recordLine (sides .second) b)) (kind-most (recordLine (sides .first) a) (recordLine (sides .second) b) (record-line-short (sides .first) a) (record-line-short (sides .second) b)))
+  events-most (found a) none = named-most (onlyFirst (recordLine (sides .first) a)) (omega (arith, record-line-short (sides .first) a))
+  events-most none (found b) = named-most (onlySecond (recordLine (sides .second) b)) (omega (arith, record-line-short (sides .second) b))
   events-most none none = lit≤ tt
 
   module _ (fits : number < 2 ^ 64) where
     one-text : (kind : Kind) → eventsText (eventsAt number (named kind)) ≡ headText number ++ kindText kind
     one-text kind = named-text kind ∙ ap (λ (n : ℕ). headText n ++ kindText kind) (capped-same number fits)
 
-    differing-text : (a b : List ℕ) → same a b ≡ false → eventsText (eventsAt number (naming asked (found a) (found b))) ≡ differingText asked number a b
+    differing-text : (a b : List ℕ) → same a b ≡ false → eventsText (eventsAt number (naming sides (found a) (found b))) ≡ differingText sides number a b
     unfolding differingText
-    differing-text a b e = rw e (one-text (kindOf (recordLine asked a) (recordLine asked b)))
+    differing-text a b e = rw e (one-text (kindOf (recordLine (sides .first) a) (recordLine (sides .second) b)))
 
-    first-text : (a : List ℕ) → eventsText (eventsAt number (naming asked (found a) none)) ≡ onlyText asked number firstWords a
+    first-text : (a : List ℕ) → eventsText (eventsAt number (naming sides (found a) none)) ≡ onlyText (sides .first) number firstWords a
     unfolding onlyText kindText
-    first-text a = one-text (onlyFirst (recordLine asked a))
+    first-text a = one-text (onlyFirst (recordLine (sides .first) a))
 
-    second-text : (b : List ℕ) → eventsText (eventsAt number (naming asked none (found b))) ≡ onlyText asked number secondWords b
+    second-text : (b : List ℕ) → eventsText (eventsAt number (naming sides none (found b))) ≡ onlyText (sides .second) number secondWords b
     unfolding onlyText kindText
-    second-text b = one-text (onlySecond (recordLine asked b))
+    second-text b = one-text (onlySecond (recordLine (sides .second) b))
 
     -- what was put of a record, and how many are named by then
-    pub notes-differ : {so-far at r n : ℕ} {xs ys : List ℕ} (a b : List ℕ) → same a b ≡ false → Put xs at (differingText asked number a b) r ys → n ≡ capped (so-far + 1) → Notes asked number so-far (found a) (found b) xs at (record { out = r; named = n }) ys
+    pub notes-differ : {so-far at r n : ℕ} {xs ys : List ℕ} (a b : List ℕ) → same a b ≡ false → Put xs at (differingText sides number a b) r ys → n ≡ capped (so-far + 1) → Notes sides number so-far (found a) (found b) xs at (record { out = r; named = n }) ys
     notes-differ a b e put count =
         record {
           put = put-as (sym (differing-text a b e)) put;
           count = rw (events-differ a b e) count;
         }
 
-    pub notes-first : {so-far at r n : ℕ} {xs ys : List ℕ} (a : List ℕ) → Put xs at (onlyText asked number firstWords a) r ys → n ≡ capped (so-far + 1) → Notes asked number so-far (found a) none xs at (record { out = r; named = n }) ys
+    pub notes-first : {so-far at r n : ℕ} {xs ys : List ℕ} (a : List ℕ) → Put xs at (onlyText (sides .first) number firstWords a) r ys → n ≡ capped (so-far + 1) → Notes sides number so-far (found a) none xs at (record { out = r; named = n }) ys
     notes-first a put count = record { put = put-as (sym (first-text a)) put; count = count }
 
-    pub notes-second : {so-far at r n : ℕ} {xs ys : List ℕ} (b : List ℕ) → Put xs at (onlyText asked number secondWords b) r ys → n ≡ capped (so-far + 1) → Notes asked number so-far none (found b) xs at (record { out = r; named = n }) ys
+    pub notes-second : {so-far at r n : ℕ} {xs ys : List ℕ} (b : List ℕ) → Put xs at (onlyText (sides .second) number secondWords b) r ys → n ≡ capped (so-far + 1) → Notes sides number so-far none (found b) xs at (record { out = r; named = n }) ys
     notes-second b put count = record { put = put-as (sym (second-text b)) put; count = count }
 
   -- nothing was put of two that are the same
-  pub notes-same : {so-far at : ℕ} {xs : List ℕ} (a b : List ℕ) → same a b ≡ true → so-far < 2 ^ 64 → Notes asked number so-far (found a) (found b) xs at (record { out = at; named = so-far }) xs
+  pub notes-same : {so-far at : ℕ} {xs : List ℕ} (a b : List ℕ) → same a b ≡ true → so-far < 2 ^ 64 → Notes sides number so-far (found a) (found b) xs at (record { out = at; named = so-far }) xs
   unfolding eventsText
   notes-same a b e fits =
       record {

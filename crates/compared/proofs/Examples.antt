@@ -5,8 +5,10 @@ use mathlib.Core.List.{List, [], _∷_, _++_}
 use Prim.Native.Nat.{ℕ}
 use lib.ListN.{length}
 use Rattle.text.specs.Words.{bytes, join}
+use Rattle.answers.specs.Lines.{refusedText, refusedLine}
 use Rattle.bodies.specs.Body.{placeOf, anyMasked, isExtended}
 use Rattle.bodies.specs.Refusals.{lengthRefused, segmentKept, firstKept, secondKept, scaleKept, maskKept, operandRefused, fieldRefused}
+use Rattle.bodies.specs.Versions.{fields, startOf}
 use Rattle.bodies.specs.Decoding.{immediate, dispIn, addressOf, operandOf, operandAt, instructionOf}
 use Rattle.branches.specs.Sums.{signed, branchSum, branchShown}
 use Rattle.names.specs.Opcodes.{arms, armOf, opcodes, mnemonics, mnemonic}
@@ -28,7 +30,7 @@ use Rattle.lines.specs.Items.{branchText, shownText, broadcastText, itemText}
 use Rattle.lines.specs.Head.{headOf}
 use Rattle.lines.specs.Text.{repsText, prefixesText, nameText, headText, partedText, itemsText, tailWord, lineText}
 use Rattle.records.specs.declared.Asked.{Asked}
-use Rattle.records.specs.Records.{refusals, lineAt, recordText}
+use Rattle.records.specs.Records.{askedRefused, refusals, lineAt, recordText}
 use Rattle.records.specs.Lines.{recordLine}
 use Rattle.records.specs.Compared.{body, zeros, oneImmediate, jmp, asking}
 use Rattle.compared.specs.declared.Side.{Side}
@@ -46,6 +48,10 @@ framed (b ∷ bs) = 0 ∷ length b ∷ (b ++ framed bs)
 -- a listing of them, and what stands after the last
 abbrev listing : List (List ℕ) → List ℕ → List ℕ
 listing bodies rest = 1 ∷ (framed bodies ++ rest)
+
+-- the same bodies in a listing of version 2
+abbrev listing2 : List (List ℕ) → List ℕ
+listing2 bodies = 2 ∷ framed bodies
 
 abbrev straight : Asked
 straight = asking 1
@@ -69,7 +75,7 @@ record Lines : Type 0 where
   nop-1 : recordLine straight (nop 1) ≡ bytes "nop\n"
 
 lines : Lines
-unfolding recordLine refusals recordText lineAt placeOf anyMasked isExtended maskKept broadcastRefused tailOf decorated placesOf maskText broadcastText tailWord lengthRefused fieldRefused operandRefused segmentKept firstKept secondKept scaleKept shapeRefused sizeRefused armOf arms opcodes instructionOf operandAt operandOf immediate dispIn addressOf planOf spread general generalLabel sizeLabel labelAt operandShown itemAt itemsAt signed branchSum branchShown headOf digit digits placesFrom places figure numeral mnemonics mnemonic registers registerName segments segmentName labels labelWord labelText segmentText branchText shownText itemText repsText prefixesText nameText headText partedText itemsText lineText
+unfolding recordLine refusals askedRefused fields startOf recordText lineAt placeOf anyMasked isExtended maskKept broadcastRefused tailOf decorated placesOf maskText broadcastText tailWord lengthRefused fieldRefused operandRefused segmentKept firstKept secondKept scaleKept shapeRefused sizeRefused armOf arms opcodes instructionOf operandAt operandOf immediate dispIn addressOf planOf spread general generalLabel sizeLabel labelAt operandShown itemAt itemsAt signed branchSum branchShown headOf digit digits placesFrom places figure numeral mnemonics mnemonic registers registerName segments segmentName labels labelWord labelText segmentText branchText shownText itemText repsText prefixesText nameText headText partedText itemsText lineText
 lines = record { pushed = refl; jump-126 = refl; jump-125 = refl; nop-0 = refl; nop-1 = refl }
 
 -- a report that says nothing of the first side
@@ -109,7 +115,7 @@ unfolding comparison reportText endText countLine sideText eventsText eventText 
 cut-second = λ i. reportText 0 (named (at 1 (kindOf (lines .jump-126 i) (lines .jump-125 i)) ∷ []) Cut)
 
 -- a version byte that is not known, and a listing without one
-starts : comparison straight (2 ∷ []) [] ≡ join (bytes "first: ; version\n" ∷ bytes "second: ; cut\n" ∷ bytes "differing records: 0\n" ∷ [])
+starts : comparison straight (3 ∷ []) [] ≡ join (bytes "first: ; version\n" ∷ bytes "second: ; cut\n" ∷ bytes "differing records: 0\n" ∷ [])
 unfolding comparison reportText endText countLine sideText eventsText decimal decimalWithin reportOf
 starts = refl
 
@@ -117,3 +123,29 @@ starts = refl
 equal : comparison straight (listing (push ∷ nop 0 ∷ []) []) (listing (push ∷ nop 0 ∷ []) []) ≡ bytes "differing records: 0\n"
 unfolding comparison reportText endText countLine sideText eventsText decimal decimalWithin reportOf walk walkWithin
 equal = refl
+
+-- the same bodies under two versions are the same records
+both-versions : comparison straight (listing (push ∷ nop 0 ∷ []) []) (listing2 (push ∷ nop 0 ∷ [])) ≡ bytes "differing records: 0\n"
+unfolding comparison reportText endText countLine sideText eventsText decimal decimalWithin reportOf walk walkWithin
+both-versions = refl
+
+-- in mode 2 no body of version 1 has an address, and one byte is no body of version 2
+record TargetLines : Type 0 where
+  of-1 : recordLine (record { mode = 2; version = 1 }) [] ≡ bytes "; refused 1\n"
+  of-2 : recordLine (record { mode = 2; version = 2 }) (0 ∷ []) ≡ bytes "; refused 2\n"
+
+target-lines : TargetLines
+unfolding recordLine refusedLine refusedText refusals askedRefused fields lengthRefused
+target-lines = record { of-1 = refl; of-2 = refl }
+
+-- each side's line is by its own version
+own-versions : comparison (asking 2) (listing ([] ∷ []) []) (listing2 ((0 ∷ []) ∷ []))
+    ≡ join (
+    bytes "record 0 differs\n"
+    ∷ bytes "  first:  ; refused 1\n"
+    ∷ bytes "  second: ; refused 2\n"
+    ∷ bytes "differing records: 1\n"
+    ∷ []
+    )
+unfolding comparison reportText endText countLine sideText eventsText eventText kindText decimal decimalWithin reportOf walk walkWithin
+own-versions = λ i. reportText 0 (named (at 0 (kindOf (target-lines .of-1 i) (target-lines .of-2 i)) ∷ []) Sound)

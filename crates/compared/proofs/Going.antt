@@ -10,13 +10,14 @@ use lib.ListN.{length, drop, length-append}
 use Rattle.text.specs.Words.{empty}
 use Rattle.frames.specs.Frames.{frameSize}
 use Rattle.records.specs.declared.Asked.{Asked}
+use Rattle.compared.specs.declared.AskedSides.{AskedSides}
 use Rattle.compared.specs.declared.Side.{Side}
 use Rattle.compared.specs.declared.Side.the-variants.{Sound, Cut, Version}
 use Rattle.compared.specs.declared.Stage.{Stage}
 use Rattle.compared.specs.declared.Stage.the-variants.{Versions, Records, Done}
-use Rattle.compared.specs.Places.{Found, startOf}
+use Rattle.compared.specs.Places.{Found, startOf, versionOf}
 use Rattle.compared.specs.Events.{naming, Event, eventsAt}
-use Rattle.compared.specs.Report.{Report, ends, before, walk, isSound, notSame, isDifferent, reportOf}
+use Rattle.compared.specs.Report.{Report, ends, before, walk, isSound, inVersions, sidesOf, notSame, isDifferent, reportOf}
 use Rattle.compared.specs.Text.{capped, eventsText, endText, reportText, comparison}
 use Rattle.compared.specs.Code.{wanting}
 use Rattle.compared.specs.Pass.{saying, differing, Comes, Goes}
@@ -73,7 +74,7 @@ bytes-left (x ∷ xs) ys more more′ h = refl
 
 module _ (asked : Asked) {ended ended′ : Bool} (xs ys : List ℕ) where
   -- the run ends
-  pub goes-ends : {number named : ℕ} (a b : Side) {xs′ ys′ : List ℕ} → ((more more′ : List ℕ) → Comes ended more → Comes ended′ more′ → walk asked number (xs ++ more) (ys ++ more′) ≡ ends a b) → Goes asked ended ended′ (Records number named) xs ys (endText a b named) (Done (notSame named a b)) xs′ ys′
+  pub goes-ends : {number named v w : ℕ} (a b : Side) {xs′ ys′ : List ℕ} → ((more more′ : List ℕ) → Comes ended more → Comes ended′ more′ → walk (inVersions v w asked) number (xs ++ more) (ys ++ more′) ≡ ends a b) → Goes asked ended ended′ (Records number named v w) xs ys (endText a b named) (Done (notSame named a b)) xs′ ys′
   unfolding saying differing
   goes-ends {number} {named} a b e =
       record {
@@ -82,29 +83,32 @@ module _ (asked : Asked) {ended ended′ : Bool} (xs ys : List ℕ) where
       }
 
   -- one place of both listings
-  module _ {f g : Found} {m n : ℕ} (x : Front ended xs f m) (y : Front ended′ ys g n) (some : 0 < m + n) where
-    steps-on : (number : ℕ) (more more′ : List ℕ) → Comes ended more → Comes ended′ more′ → walk asked number (xs ++ more) (ys ++ more′) ≡ before (eventsAt number (naming asked f g)) (walk asked (suc number) (drop m xs ++ more) (drop n ys ++ more′))
-    steps-on number more more′ c c′ =
-        walk-step asked number (xs ++ more) (ys ++ more′) (ap₂ (λ (p q : Bool). p || q) (x .uncut more c) (y .uncut more′ c′)) (bytes-left xs ys more more′ (omega (arith, some, x .within, y .within)))
-        ∙ ap₂ (λ (f′ g′ : Found). before (eventsAt number (naming asked f′ g′)) (walk asked (suc number) (drop (frameSize (xs ++ more)) (xs ++ more)) (drop (frameSize (ys ++ more′)) (ys ++ more′)))) (x .record-there more c) (y .record-there more′ c′)
-        ∙ ap₂ (λ (us vs : List ℕ). before (eventsAt number (naming asked f g)) (walk asked (suc number) us vs)) (x .left more c) (y .left more′ c′)
+  module _ {f g : Found} {m n : ℕ} (x : Front ended xs f m) (y : Front ended′ ys g n) (some : 0 < m + n) (v w : ℕ) where
+    abbrev sides : AskedSides
+    sides = inVersions v w asked
 
-    pub goes-on : (number named : ℕ) {number′ named′ : ℕ} → number′ ≡ capped (number + 1) → named′ ≡ capped (named + length (eventsAt number (naming asked f g))) → Goes asked ended ended′ (Records number named) xs ys (eventsText (eventsAt number (naming asked f g))) (Records number′ named′) (drop m xs) (drop n ys)
+    steps-on : (number : ℕ) (more more′ : List ℕ) → Comes ended more → Comes ended′ more′ → walk sides number (xs ++ more) (ys ++ more′) ≡ before (eventsAt number (naming sides f g)) (walk sides (suc number) (drop m xs ++ more) (drop n ys ++ more′))
+    steps-on number more more′ c c′ =
+        walk-step sides number (xs ++ more) (ys ++ more′) (ap₂ (λ (p q : Bool). p || q) (x .uncut more c) (y .uncut more′ c′)) (bytes-left xs ys more more′ (omega (arith, some, x .within, y .within)))
+        ∙ ap₂ (λ (f′ g′ : Found). before (eventsAt number (naming sides f′ g′)) (walk sides (suc number) (drop (frameSize (xs ++ more)) (xs ++ more)) (drop (frameSize (ys ++ more′)) (ys ++ more′)))) (x .record-there more c) (y .record-there more′ c′)
+        ∙ ap₂ (λ (us vs : List ℕ). before (eventsAt number (naming sides f g)) (walk sides (suc number) us vs)) (x .left more c) (y .left more′ c′)
+
+    pub goes-on : (number named : ℕ) {number′ named′ : ℕ} → number′ ≡ capped (number + 1) → named′ ≡ capped (named + length (eventsAt number (naming sides f g))) → Goes asked ended ended′ (Records number named v w) xs ys (eventsText (eventsAt number (naming sides f g))) (Records number′ named′ v w) (drop m xs) (drop n ys)
     unfolding saying differing
     goes-on number named {number′} {named′} e e′ =
-        let es = eventsAt number (naming asked f g) in
-        let alike : (us vs : List ℕ) → Alike (walk asked (suc number) us vs) (walk asked number′ us vs) = alike-walk asked (suc number) number′ (omega (arith, e)) in
+        let es = eventsAt number (naming sides f g) in
+        let alike : (us vs : List ℕ) → Alike (walk sides (suc number) us vs) (walk sides number′ us vs) = alike-walk sides (suc number) number′ (omega (arith, e)) in
         let capped-count : capped (named + length es) ≡ capped named′ = omega (arith, e′) in
         record {
           said =
               λ more more′ c c′.
               ap (reportText named) (steps-on number more more′ c c′)
-              ∙ report-before named es (walk asked (suc number) (drop m xs ++ more) (drop n ys ++ more′))
+              ∙ report-before named es (walk sides (suc number) (drop m xs ++ more) (drop n ys ++ more′))
               ∙ ap (λ (t : List ℕ). eventsText es ++ t) (alike-text (named + length es) named′ capped-count (alike (drop m xs ++ more) (drop n ys ++ more′)));
           verdict =
               λ more more′ c c′.
               ap (isDifferent named) (steps-on number more more′ c c′)
-              ∙ different-before named es (walk asked (suc number) (drop m xs ++ more) (drop n ys ++ more′))
+              ∙ different-before named es (walk sides (suc number) (drop m xs ++ more) (drop n ys ++ more′))
               ∙ alike-different (named + length es) named′ capped-count (alike (drop m xs ++ more) (drop n ys ++ more′));
         }
 
@@ -130,7 +134,7 @@ both-sound Cut b e = absurd (let z : _≡_ {A = ℕ} 0 1 = cc in omega arith)
 both-sound Version b e = absurd (let z : _≡_ {A = ℕ} 0 1 = cc in omega arith)
 
 module _ (asked : Asked) {ended ended′ : Bool} where
-  pub goes-known : (xs ys : List ℕ) → startOf xs ≡ Sound → startOf ys ≡ Sound → Goes asked ended ended′ Versions xs ys [] (Records 0 0) (drop 1 xs) (drop 1 ys)
+  pub goes-known : (xs ys : List ℕ) → startOf xs ≡ Sound → startOf ys ≡ Sound → Goes asked ended ended′ Versions xs ys [] (Records 0 0 (versionOf xs) (versionOf ys)) (drop 1 xs) (drop 1 ys)
   unfolding saying differing comparison reportOf
   goes-known [] ys e e′ = absurd (let z : _≡_ {A = ℕ} 0 1 = cc in omega arith)
   goes-known (x ∷ xs) [] e e′ = absurd (let z : _≡_ {A = ℕ} 0 1 = cc in omega arith)
@@ -149,5 +153,5 @@ module _ (asked : Asked) {ended ended′ : Bool} where
     where
       told : (more more′ : List ℕ) → Comes ended more → Comes ended′ more′ → reportOf asked (xs ++ more) (ys ++ more′) ≡ ends (startOf xs) (startOf ys)
       told more more′ c c′ =
-          ap₂ (λ (a b : Side). cond (isSound a && isSound b) (walk asked 0 (drop 1 (xs ++ more)) (drop 1 (ys ++ more′))) (ends a b)) (start-stays ended xs more w c) (start-stays ended′ ys more′ w′ c′)
-          ∙ ap (λ (t : Bool). cond t (walk asked 0 (drop 1 (xs ++ more)) (drop 1 (ys ++ more′))) (ends (startOf xs) (startOf ys))) (not-sound (startOf xs) (startOf ys) e)
+          ap₂ (λ (a b : Side). cond (isSound a && isSound b) (walk (sidesOf asked (xs ++ more) (ys ++ more′)) 0 (drop 1 (xs ++ more)) (drop 1 (ys ++ more′))) (ends a b)) (start-stays ended xs more w c) (start-stays ended′ ys more′ w′ c′)
+          ∙ ap (λ (t : Bool). cond t (walk (sidesOf asked (xs ++ more) (ys ++ more′)) 0 (drop 1 (xs ++ more)) (drop 1 (ys ++ more′))) (ends (startOf xs) (startOf ys))) (not-sound (startOf xs) (startOf ys) e)

@@ -6,6 +6,7 @@ use Prim.Native.Nat.{ℕ, suc, _+_, _^_, _≤_, _<_}
 use native.Mathlib.Omega.{arith}
 use lib.ListN.{length, length-drop}
 use Rattle.records.specs.declared.Asked.{Asked}
+use Rattle.compared.specs.declared.AskedSides.{AskedSides}
 use Rattle.compared.specs.Places.{frontRecord}
 use Rattle.compared.specs.Events.{Naming, naming, Event, eventsAt}
 use Rattle.compared.specs.Events.Naming.{unnamed, named}
@@ -26,27 +27,27 @@ count-before : (n : ℕ) (what : Naming) (es : List Event) → length (eventsAt 
 count-before n unnamed es = omega arith
 count-before n (named kind) es = omega arith
 
-module _ {asked : Asked} where
-  walk-below : {n : ℕ} {xs ys : List ℕ} {r : Report} {e : Event} → Walked asked n xs ys r → Among e (r .events) → e .number < n + (length xs + length ys)
+module _ {sides : AskedSides} where
+  walk-below : {n : ℕ} {xs ys : List ℕ} {r : Report} {e : Event} → Walked sides n xs ys r → Among e (r .events) → e .number < n + (length xs + length ys)
   walk-below (cut c) m = absurd (elim m [ ])
   walk-below over m = absurd (elim m [ ])
   walk-below {e = e} (on {n} {xs} {ys} {r} c some w) m =
-      below-before (naming asked (frontRecord xs) (frontRecord ys)) (omega (arith, step-less xs ys some)) (λ (l : Among e (r .events)). omega (arith, walk-below w l, step-less xs ys some)) m
+      below-before (naming sides (frontRecord xs) (frontRecord ys)) (omega (arith, step-less xs ys some)) (λ (l : Among e (r .events)). omega (arith, walk-below w l, step-less xs ys some)) m
 
-  walk-count : {n : ℕ} {xs ys : List ℕ} {r : Report} → Walked asked n xs ys r → length (r .events) ≤ length xs + length ys
+  walk-count : {n : ℕ} {xs ys : List ℕ} {r : Report} → Walked sides n xs ys r → length (r .events) ≤ length xs + length ys
   walk-count (cut c) = omega arith
   walk-count over = omega arith
   walk-count (on {n} {xs} {ys} {r} c some w) =
-      omega (arith, count-before n (naming asked (frontRecord xs) (frontRecord ys)) (r .events), walk-count w, step-less xs ys some)
+      omega (arith, count-before n (naming sides (frontRecord xs) (frontRecord ys)) (r .events), walk-count w, step-less xs ys some)
 
-  module _ {first second : List ℕ} where
-    report-below : {r : Report} {e : Event} → Started asked first second r → Among e (r .events) → e .number < length first + length second
-    report-below (unsound u) m = absurd (elim m [ ])
-    report-below (sound s t w) m = omega (arith, walk-below w m, length-drop 1 first, length-drop 1 second)
+module _ {asked : Asked} {first second : List ℕ} where
+  report-below : {r : Report} {e : Event} → Started asked first second r → Among e (r .events) → e .number < length first + length second
+  report-below (unsound u) m = absurd (elim m [ ])
+  report-below (sound s t w) m = omega (arith, walk-below w m, length-drop 1 first, length-drop 1 second)
 
-    report-count : {r : Report} → Started asked first second r → length (r .events) ≤ length first + length second
-    report-count (unsound u) = omega arith
-    report-count (sound s t w) = omega (arith, walk-count w, length-drop 1 first, length-drop 1 second)
+  report-count : {r : Report} → Started asked first second r → length (r .events) ≤ length first + length second
+  report-count (unsound u) = omega arith
+  report-count (sound s t w) = omega (arith, walk-count w, length-drop 1 first, length-drop 1 second)
 
 module _ (asked : Asked) (first second : List ℕ) where
   -- the number of each event is below the bytes of both listings together, and there are no more events than that

@@ -25,7 +25,7 @@ use Rattle.compared.specs.declared.Stage.the-variants.{Versions, Records
 use Rattle.compared.specs.declared.Passed.{Passed}
 use Rattle.compared.specs.Places.{Found, startOf}
 use Rattle.compared.specs.Events.{naming, eventsAt}
-use Rattle.compared.specs.Report.{notSame}
+use Rattle.compared.specs.Report.{inVersions, notSame}
 use Rattle.compared.specs.Text.{capped, eventsText, endText, longestEvent}
 use Rattle.cursors.specs.Longest.{longestFrame}
 use Rattle.compared.specs.Pass.{Passes}
@@ -78,31 +78,32 @@ module _ (asked : Asked) (xs ys : List ℕ) (ended ended′ : Bool) where
       go true b c w w′ d = pass-step (steps-first placed (wanting-few ended xs w))
       go false true c w w′ d = pass-step (steps-second placed (wanting-few ended′ ys w′))
       go false false true w w′ d = pass-step (steps-unknown placed refl refl refl w w′ d (put-blank (endText (startOf xs) (startOf ys) 0)))
-      go false false false w w′ d = pass-step (steps-known placed refl refl refl d)
+      go false false false w w′ d = pass-step (steps-known placed refl refl refl d refl refl)
 
   -- a place of both listings
-  pass-place : {number named : ℕ} {f g : Found} {p q : ℕ} → Placed xs 0 ended f p → Placed ys 0 ended′ g q → 0 < p + q → Pass asked (Records number named) xs ys ended ended′
-  pass-place {number} {named} {f} {g} x y some =
-      let es = eventsAt number (naming asked f g) in
+  pass-place : {number named v w : ℕ} {f g : Found} {p q : ℕ} → Placed xs 0 ended f p → Placed ys 0 ended′ g q → 0 < p + q → Pass asked (Records number named v w) xs ys ended ended′
+  pass-place {number} {named} {v} {w} {f} {g} x y some =
+      let sides = inVersions v w asked in
+      let es = eventsAt number (naming sides f g) in
       let noted : Noted = record { named = capped (named + length es); out = length (eventsText es) } in
-      let notes : Notes asked number named f g blank 0 noted (write blank 0 (eventsText es)) = record { put = put-blank (eventsText es); count = refl } in
-      pass-step (steps-note x y (omega (arith, some)) refl notes)
+      let notes : Notes sides number named f g blank 0 noted (write blank 0 (eventsText es)) = record { put = put-blank (eventsText es); count = refl } in
+      pass-step (steps-note x y (omega (arith, some)) refl refl notes)
 
   module _ {s t : Stands} (sees : Sees xs 0 ended s) (sees′ : Sees ys 0 ended′ t) where
-    pass-turn : (number named : ℕ) (u : Turn) → turnOf s t ≡ u → Pass asked (Records number named) xs ys ended ended′
-    pass-turn number named First e = pass-step (steps-first placed (more-there sees (turn-first s t e)))
-    pass-turn number named Second e = pass-step (steps-second placed (more-there sees′ (turn-second s t e)))
-    pass-turn number named (Ends a b) e = pass-step (steps-ends asked placed sees sees′ e (put-blank (endText a b named)) refl)
-    pass-turn number named (Both a b c d) e =
+    pass-turn : (number named v w : ℕ) (u : Turn) → turnOf s t ≡ u → Pass asked (Records number named v w) xs ys ended ended′
+    pass-turn number named v w First e = pass-step (steps-first placed (more-there sees (turn-first s t e)))
+    pass-turn number named v w Second e = pass-step (steps-second placed (more-there sees′ (turn-second s t e)))
+    pass-turn number named v w (Ends a b) e = pass-step (steps-ends asked v w placed sees sees′ e (put-blank (endText a b named)) refl)
+    pass-turn number named v w (Both a b c d) e =
         let both = turn-both s t e in
         let x = placed-body sees (both .0) refl in
         let y = placed-body sees′ (both .1) refl in
         pass-place (x .0) (y .0) (omega (arith, x .1))
-    pass-turn number named (OnlyFirst a b) e =
+    pass-turn number named v w (OnlyFirst a b) e =
         let only = turn-only-first s t e in
         let x = placed-body sees (only .0) refl in
         pass-place (x .0) (placed-end sees′ (only .1) refl (placed .1)) (omega (arith, x .1))
-    pass-turn number named (OnlySecond c d) e =
+    pass-turn number named v w (OnlySecond c d) e =
         let only = turn-only-second s t e in
         let y = placed-body sees′ (only .1) refl in
         pass-place (placed-end sees (only .0) refl (placed .0)) (y .0) (omega (arith, y .1))
@@ -110,6 +111,6 @@ module _ (asked : Asked) (xs ys : List ℕ) (ended ended′ : Bool) where
   -- whatever is held, there is a pass from it
   pub pass : (stage : Stage) → Bytes xs → Bytes ys → Pass asked stage xs ys ended ended′
   pass Versions small small′ = pass-versions
-  pass (Records number named) small small′ =
-      pass-turn (sees-front ended xs small) (sees-front ended′ ys small′) number named (turnOf (standsAt xs 0 ended) (standsAt ys 0 ended′)) refl
+  pass (Records number named v w) small small′ =
+      pass-turn (sees-front ended xs small) (sees-front ended′ ys small′) number named v w (turnOf (standsAt xs 0 ended) (standsAt ys 0 ended′)) refl
   pass (Done different) small small′ = pass-step (steps-done placed)

@@ -6,10 +6,10 @@ use mathlib.Core.Logic.{_↔_}
 use mathlib.Core.List.{List, [], _∷_, _++_}
 use Prim.Native.Nat.{ℕ, zero, suc, _+_, _*_, _^_, _≤_, _<_}
 use native.Mathlib.Omega.{arith}
-use lib.Dec.{eqb, ltb}
+use lib.Dec.{ltb}
 use lib.ListN.{length, take, drop, length-take, length-drop, take-append-drop}
 use lib.Seq.{drop-drop}
-use borrow.Author.Tests.{eqb-true, lt-ltb}
+use borrow.Author.Tests.{lt-ltb}
 use Rattle.text.specs.Words.{empty}
 use Rattle.frames.specs.Frames.{bodyLength, isWhole, bodyOf, frameSize}
 use Rattle.frames.proofs.FrameAt.{size-whole}
@@ -17,13 +17,14 @@ use Rattle.bodies.specs.WellFormed.{Bytes}
 use Rattle.records.specs.declared.Asked.{Asked}
 use Rattle.listings.proofs.LineLaws.{frame-within}
 use Rattle.streams.proofs.Streaming.{bytes-drop}
+use Rattle.compared.specs.declared.AskedSides.{AskedSides}
 use Rattle.compared.specs.declared.Side.{Side}
 use Rattle.compared.specs.declared.Side.the-variants.{Sound, Cut, Version}
-use Rattle.compared.specs.Places.{startOf, after, frontRecord, isCut, cutAt}
+use Rattle.compared.specs.Places.{startOf, versionOf, after, frontRecord, isCut, cutAt}
 use Rattle.compared.specs.Places.Found.{found, none}
 use Rattle.compared.specs.Events.{Naming, naming, Event, eventsAt}
 use Rattle.compared.specs.Events.Naming.{unnamed, named}
-use Rattle.compared.specs.Report.{Report, ends, reportOf, notSame, isDifferent}
+use Rattle.compared.specs.Report.{Report, ends, sidesOf, reportOf, notSame, isDifferent}
 use Rattle.compared.specs.Statements.{SameRecords}
 use Rattle.compared.proofs.Walks.{Walked, walked, left, Started, started}
 use Rattle.compared.proofs.Walks.Walked.{cut, over, on}
@@ -59,8 +60,8 @@ alike-left xs ys all k = let a = all (suc k) in record { first-uncut = a .first-
 records-alike : {first second : List ℕ} → SameRecords first second → (k : ℕ) → Alike (drop 1 first) (drop 1 second) k
 records-alike s k = record { first-uncut = s .uncut k .0; second-uncut = s .uncut k .1; records = s .records k }
 
-module _ {asked : Asked} where
-  silent-alike : {n : ℕ} {xs ys : List ℕ} {r : Report} → Walked asked n xs ys r → r .events ≡ [] → r .first ≡ Sound → r .second ≡ Sound → (k : ℕ) → Alike xs ys k
+module _ {sides : AskedSides} where
+  silent-alike : {n : ℕ} {xs ys : List ℕ} {r : Report} → Walked sides n xs ys r → r .events ≡ [] → r .first ≡ Sound → r .second ≡ Sound → (k : ℕ) → Alike xs ys k
   unfolding after
   silent-alike (cut {n} {xs} {ys} c) e f g k =
       absurd (
@@ -71,18 +72,18 @@ module _ {asked : Asked} where
       )
   silent-alike over e f g k = alike-none k
   silent-alike (on {n} {xs} {ys} c some w) e f g zero =
-      let what = naming asked (frontRecord xs) (frontRecord ys) in
+      let what = naming sides (frontRecord xs) (frontRecord ys) in
       record {
         first-uncut = neither (isCut xs) (isCut ys) c .0;
         second-uncut = neither (isCut xs) (isCut ys) c .1;
-        records = unnamed-exactly asked (frontRecord xs) (frontRecord ys) .0 (none-before n what e .0);
+        records = unnamed-exactly sides (frontRecord xs) (frontRecord ys) .0 (none-before n what e .0);
       }
   silent-alike (on {n} {xs} {ys} c some w) e f g (suc k) =
-      let what = naming asked (frontRecord xs) (frontRecord ys) in
+      let what = naming sides (frontRecord xs) (frontRecord ys) in
       let a = silent-alike w (none-before n what e .1) f g k in
       record { first-uncut = a .first-uncut; second-uncut = a .second-uncut; records = a .records }
 
-  alike-silent : {n : ℕ} {xs ys : List ℕ} {r : Report} → Walked asked n xs ys r → ((k : ℕ) → Alike xs ys k) → Silent r
+  alike-silent : {n : ℕ} {xs ys : List ℕ} {r : Report} → Walked sides n xs ys r → ((k : ℕ) → Alike xs ys k) → Silent r
   unfolding after
   alike-silent (cut {n} {xs} {ys} c) all =
       let a = all 0 .first-uncut in
@@ -91,21 +92,21 @@ module _ {asked : Asked} where
       absurd (omega (arith, z))
   alike-silent over all = refl
   alike-silent (on {n} {xs} {ys} {r} c some w) all =
-      rw (unnamed-exactly asked (frontRecord xs) (frontRecord ys) .1 (all 0 .records)) (alike-silent w (alike-left xs ys all))
+      rw (unnamed-exactly sides (frontRecord xs) (frontRecord ys) .1 (all 0 .records)) (alike-silent w (alike-left xs ys all))
 
-  module _ {first second : List ℕ} where
-    silent-records : {r : Report} → Started asked first second r → r .events ≡ [] → r .first ≡ Sound → r .second ≡ Sound → SameRecords first second
-    silent-records (unsound u) e f g = absurd (let z : _≡_ {A = ℕ} 0 1 = cc in omega (arith, z))
-    silent-records (sound s t w) e f g =
-        record {
-          sound = (s, t);
-          uncut = λ k. let a = silent-alike w e f g k in (a .first-uncut, a .second-uncut);
-          records = λ k. silent-alike w e f g k .records;
-        }
+module _ {asked : Asked} {first second : List ℕ} where
+  silent-records : {r : Report} → Started asked first second r → r .events ≡ [] → r .first ≡ Sound → r .second ≡ Sound → SameRecords first second
+  silent-records (unsound u) e f g = absurd (let z : _≡_ {A = ℕ} 0 1 = cc in omega (arith, z))
+  silent-records (sound s t w) e f g =
+      record {
+        sound = (s, t);
+        uncut = λ k. let a = silent-alike w e f g k in (a .first-uncut, a .second-uncut);
+        records = λ k. silent-alike w e f g k .records;
+      }
 
-    records-silent : {r : Report} → Started asked first second r → SameRecords first second → Silent r
-    records-silent (unsound u) s = absurd (let a = s .sound .0 in let b = s .sound .1 in let z : _≡_ {A = ℕ} 0 1 = cc in omega (arith, z))
-    records-silent (sound f g w) s = alike-silent w (records-alike s)
+  records-silent : {r : Report} → Started asked first second r → SameRecords first second → Silent r
+  records-silent (unsound u) s = absurd (let a = s .sound .0 in let b = s .sound .1 in let z : _≡_ {A = ℕ} 0 1 = cc in omega (arith, z))
+  records-silent (sound f g w) s = alike-silent w (records-alike s)
 
 -- no difference: no event, and both sides sound
 not-different : (es : List Event) (first second : Side) → notSame (0 + length es) first second ≡ false → (es ≡ []) × (first ≡ Sound) × (second ≡ Sound)
@@ -172,7 +173,7 @@ both-whole xs ys some c d e = go (empty xs) (empty ys) (isWhole xs) (isWhole ys)
     go true false false false some c d e = (cc, cc, cc)
     go false b false false some c d e = (cc, cc, cc)
 
-alike-equal : {asked : Asked} {n : ℕ} {xs ys : List ℕ} {r : Report} → Walked asked n xs ys r → ((k : ℕ) → Alike xs ys k) → Bytes xs → Bytes ys → xs ≡ ys
+alike-equal : {sides : AskedSides} {n : ℕ} {xs ys : List ℕ} {r : Report} → Walked sides n xs ys r → ((k : ℕ) → Alike xs ys k) → Bytes xs → Bytes ys → xs ≡ ys
 unfolding after
 alike-equal (cut {n} {xs} {ys} c) all s t =
     let a = all 0 .first-uncut in
@@ -186,26 +187,29 @@ alike-equal (on {n} {xs} {ys} {r} c some w) all s t =
     frames-equal xs ys s t (whole .0) (whole .1) (whole .2)
     (alike-equal w (alike-left xs ys all) (bytes-drop xs (frameSize xs) s) (bytes-drop ys (frameSize ys) t))
 
--- a sound start is the byte 1
-sound-start : (xs : List ℕ) → startOf xs ≡ Sound → xs ≡ 1 ∷ drop 1 xs
+-- a sound start is a version byte
+sound-start : (xs : List ℕ) → startOf xs ≡ Sound → xs ≡ versionOf xs ∷ drop 1 xs
 sound-start [] e = cc
-sound-start (v ∷ xs) e = ap (λ (v : ℕ). v ∷ xs) (eqb-true v 1 (known (eqb v 1) e))
-  where
-    known : (b : Bool) → cond b Sound Version ≡ Sound → b ≡ true
-    known true e = refl
-    known false e = cc
+sound-start (v ∷ xs) e = refl
 
 module _ (asked : Asked) (first second : List ℕ) (first-bytes : Bytes first) (second-bytes : Bytes second) where
-  records-equal : SameRecords first second → first ≡ second
+  records-equal : SameRecords first second → drop 1 first ≡ drop 1 second
   records-equal s =
-      sound-start first (s .sound .0)
-      ∙ ap (λ (xs : List ℕ). 1 ∷ xs)
-      (alike-equal (walked asked 0 (drop 1 first) (drop 1 second)) (records-alike s) (bytes-drop first 1 first-bytes) (bytes-drop second 1 second-bytes))
-      ∙ sym (sound-start second (s .sound .1))
+      alike-equal (walked (sidesOf asked first second) 0 (drop 1 first) (drop 1 second)) (records-alike s) (bytes-drop first 1 first-bytes) (bytes-drop second 1 second-bytes)
 
-  -- Of bytes, two listings are reported the same exactly if they are equal, begin as they must and are cut nowhere.
-  pub same-equal-exactly : (isDifferent 0 (reportOf asked first second) ≡ false) ↔ ((first ≡ second) × (startOf first ≡ Sound) × ((k : ℕ) → cutAt first k ≡ false))
+  -- Of bytes, two listings are reported the same exactly if both begin as they must, each with its own version, and after that byte they
+  -- are equal and cut nowhere.
+  pub same-equal-exactly : (isDifferent 0 (reportOf asked first second) ≡ false) ↔ ((drop 1 first ≡ drop 1 second) × (startOf first ≡ Sound) × (startOf second ≡ Sound) × ((k : ℕ) → cutAt first k ≡ false))
   same-equal-exactly = (
-    λ e. let s = same-exactly asked first second .0 e in (records-equal s, s .sound .0, λ k. s .uncut k .0),
-    λ s. same-exactly asked first second .1 (record { sound = (s .1, rw (← s .0) (s .1)); uncut = λ k. (s .2 k, rw (← s .0) (s .2 k)); records = λ k. rw (s .0) }),
+    λ e. let s = same-exactly asked first second .0 e in (records-equal s, s .sound .0, s .sound .1, λ k. s .uncut k .0),
+    λ s. same-exactly asked first second .1 (record { sound = (s .1, s .2); uncut = λ k. (s .3 k, rw (← s .0) (s .3 k)); records = λ k. rw (s .0) }),
+  )
+
+  -- So listings of one version are reported the same exactly if they are equal, begin as they must and are cut nowhere.
+  pub same-version-exactly : versionOf first ≡ versionOf second → (isDifferent 0 (reportOf asked first second) ≡ false) ↔ ((first ≡ second) × (startOf first ≡ Sound) × ((k : ℕ) → cutAt first k ≡ false))
+  same-version-exactly v = (
+    λ e.
+        let s = same-equal-exactly .0 e in
+        (sound-start first (s .1) ∙ rw (v, s .0) (sym (sound-start second (s .2))), s .1, s .3),
+    λ s. same-equal-exactly .1 (rw (s .0), s .1, rw (← s .0) (s .1), s .2),
   )

@@ -18,7 +18,7 @@ use Rattle.compared.specs.declared.Turn.the-variants.{First, Second, End
 use Rattle.compared.specs.declared.Next.the-variants.{Nothing}
 use Rattle.compared.specs.declared.Stage.the-variants.{Records, Done}
 use Rattle.compared.specs.Places.{isCut}
-use Rattle.compared.specs.Report.{ends, walk, notSame}
+use Rattle.compared.specs.Report.{ends, walk, inVersions, notSame}
 use Rattle.compared.specs.Text.{endText}
 use Rattle.compared.specs.Pass.{Comes}
 use Rattle.compared.specs.Code.{turnOf, Steps}
@@ -137,11 +137,11 @@ cuts-there sees placed (has-body e f) more comes = placed-body sees e refl .0 .f
 cuts-there sees placed (has-end e f) more comes = placed-end sees e refl placed .front .uncut more comes ∙ sym f
 
 -- where the run ends
-module _ (asked : Asked) {xs ys : List ℕ} {at at′ : ℕ} {ended ended′ : Bool} {s t : Stands} (placed : (at ≤ length xs) × (at′ ≤ length ys)) (sees : Sees xs at ended s) (sees′ : Sees ys at′ ended′ t) where
-  walk-ends : (number : ℕ) {a b : Side} → turnOf s t ≡ Ends a b → (more more′ : List ℕ) → Comes ended more → Comes ended′ more′ → walk asked number (drop at xs ++ more) (drop at′ ys ++ more′) ≡ ends a b
+module _ (asked : Asked) (v w : ℕ) {xs ys : List ℕ} {at at′ : ℕ} {ended ended′ : Bool} {s t : Stands} (placed : (at ≤ length xs) × (at′ ≤ length ys)) (sees : Sees xs at ended s) (sees′ : Sees ys at′ ended′ t) where
+  walk-ends : (number : ℕ) {a b : Side} → turnOf s t ≡ Ends a b → (more more′ : List ℕ) → Comes ended more → Comes ended′ more′ → walk (inVersions v w asked) number (drop at xs ++ more) (drop at′ ys ++ more′) ≡ ends a b
   walk-ends number {a} {b} e more more′ c c′ = go (settled s t)
     where
-      go : Settled s t (turnOf s t) → walk asked number (drop at xs ++ more) (drop at′ ys ++ more′) ≡ ends a b
+      go : Settled s t (turnOf s t) → walk (inVersions v w asked) number (drop at xs ++ more) (drop at′ ys ++ more′) ≡ ends a b
       go (to-first x f) = absurd (apart e f (λ z. omega (arith, z)))
       go (to-second x f) = absurd (apart e f (λ z. omega (arith, z)))
       go (to-cut p q x y z f) =
@@ -149,17 +149,17 @@ module _ (asked : Asked) {xs ys : List ℕ} {at at′ : ℕ} {ended ended′ : B
           let cut′ = cuts-there sees′ (placed .1) y more′ c′ in
           let first : cond p SideCut Sound ≡ a = cc in
           let second : cond q SideCut Sound ≡ b = cc in
-          walk-cut asked number (drop at xs ++ more) (drop at′ ys ++ more′) (ap₂ (λ (i j : Bool). i || j) cut cut′ ∙ z)
+          walk-cut (inVersions v w asked) number (drop at xs ++ more) (drop at′ ys ++ more′) (ap₂ (λ (i j : Bool). i || j) cut cut′ ∙ z)
           ∙ ap₂ (λ (i j : Bool). ends (cond i SideCut Sound) (cond j SideCut Sound)) cut cut′
           ∙ ap₂ ends first second
       go (to-end x y f) =
           let first : Sound ≡ a = cc in
           let second : Sound ≡ b = cc in
-          ap₂ (walk asked number) (end-empty sees x more c) (end-empty sees′ y more′ c′) ∙ walk-empty asked number ∙ ap₂ ends first second
+          ap₂ (walk (inVersions v w asked) number) (end-empty sees x more c) (end-empty sees′ y more′ c′) ∙ walk-empty (inVersions v w asked) number ∙ ap₂ ends first second
       go (to-both x y f) = absurd (apart e f (λ z. omega (arith, z)))
       go (to-only-first x y f) = absurd (apart e f (λ z. omega (arith, z)))
       go (to-only-second x y f) = absurd (apart e f (λ z. omega (arith, z)))
 
-  pub steps-ends : {number named : ℕ} {a b : Side} {before : List ℕ} {out next : ℕ} {after : List ℕ} {different : Bool} → turnOf s t ≡ Ends a b → Put before out (endText a b named) next after → different ≡ notSame named a b → Steps asked (Records number named) xs ys at at′ ended ended′ before out (record { stage = Done different; first = at; second = at′; out = next; next = Nothing }) after
+  pub steps-ends : {number named : ℕ} {a b : Side} {before : List ℕ} {out next : ℕ} {after : List ℕ} {different : Bool} → turnOf s t ≡ Ends a b → Put before out (endText a b named) next after → different ≡ notSame named a b → Steps asked (Records number named v w) xs ys at at′ ended ended′ before out (record { stage = Done different; first = at; second = at′; out = next; next = Nothing }) after
   steps-ends {number} {named} {a} {b} e put d =
       rw d (steps-end placed (endText a b named) (goes-ends asked (drop at xs) (drop at′ ys) a b (walk-ends number e)) put (end-most a b named))

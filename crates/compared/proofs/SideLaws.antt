@@ -8,6 +8,7 @@ use Prim.Native.Nat.{ℕ, zero, suc, _<_}
 use native.Mathlib.Nat.{le-of-suc-le-suc}
 use native.Mathlib.Omega.{arith}
 use Rattle.records.specs.declared.Asked.{Asked}
+use Rattle.compared.specs.declared.AskedSides.{AskedSides}
 use Rattle.compared.specs.declared.Side.the-variants.{Sound, Cut, Version}
 use Rattle.compared.specs.Places.{startOf, after, isCut}
 use Rattle.compared.specs.Report.{Report, reportOf}
@@ -50,13 +51,13 @@ ahead-left xs ys e a = record { place = suc (a .place); there = there; other-unc
     uncut zero h = unfold after in e
     uncut (suc j) h = unfold after in (a .other-uncut j (le-of-suc-le-suc h))
 
-module _ {asked : Asked} where
-  walk-cut-ahead : {n : ℕ} {xs ys : List ℕ} {r : Report} → Walked asked n xs ys r → r .first ≡ Cut → CutAhead xs ys
+module _ {sides : AskedSides} where
+  walk-cut-ahead : {n : ℕ} {xs ys : List ℕ} {r : Report} → Walked sides n xs ys r → r .first ≡ Cut → CutAhead xs ys
   walk-cut-ahead (cut {n} {xs} {ys} c) e = ahead-here xs ys (said-cut (isCut xs) e)
   walk-cut-ahead over e = absurd (let z : _≡_ {A = ℕ} 0 1 = cc in omega (arith, z))
   walk-cut-ahead (on {n} {xs} {ys} c some w) e = ahead-left xs ys (neither (isCut xs) (isCut ys) c .1) (walk-cut-ahead w e)
 
-  ahead-walk-cut : {n : ℕ} {xs ys : List ℕ} {r : Report} → Walked asked n xs ys r → (k : ℕ) → isCut (after k xs) ≡ true → ((j : ℕ) → j < k → isCut (after j ys) ≡ false) → r .first ≡ Cut
+  ahead-walk-cut : {n : ℕ} {xs ys : List ℕ} {r : Report} → Walked sides n xs ys r → (k : ℕ) → isCut (after k xs) ≡ true → ((j : ℕ) → j < k → isCut (after j ys) ≡ false) → r .first ≡ Cut
   unfolding after
   ahead-walk-cut (cut {n} {xs} {ys} c) zero t f = rw t
   ahead-walk-cut (cut {n} {xs} {ys} c) (suc k) t f = rw (first-of (isCut xs) c (f 0 (omega arith)))
@@ -64,27 +65,27 @@ module _ {asked : Asked} where
   ahead-walk-cut (on c some w) zero t f = cc
   ahead-walk-cut (on c some w) (suc k) t f = ahead-walk-cut w k t (λ j h. f (suc j) (omega (arith, h)))
 
-  walk-never-version : {n : ℕ} {xs ys : List ℕ} {r : Report} → Walked asked n xs ys r → r .first ≡ Version → ⊥
+  walk-never-version : {n : ℕ} {xs ys : List ℕ} {r : Report} → Walked sides n xs ys r → r .first ≡ Version → ⊥
   walk-never-version (cut {n} {xs} {ys} c) e = never-version (isCut xs) e
   walk-never-version over e = let z : _≡_ {A = ℕ} 0 1 = cc in omega (arith, z)
   walk-never-version (on c some w) e = walk-never-version w e
 
-  module _ {first second : List ℕ} where
-    report-cut : {r : Report} → Started asked first second r → r .first ≡ Cut → SaidCut first second
-    report-cut (unsound u) e = inl e
-    report-cut (sound s t w) e =
-        let a = walk-cut-ahead w e in
-        inr (s, t, record { place = a .place; there = a .there; other-uncut = a .other-uncut })
+module _ {asked : Asked} {first second : List ℕ} where
+  report-cut : {r : Report} → Started asked first second r → r .first ≡ Cut → SaidCut first second
+  report-cut (unsound u) e = inl e
+  report-cut (sound s t w) e =
+      let a = walk-cut-ahead w e in
+      inr (s, t, record { place = a .place; there = a .there; other-uncut = a .other-uncut })
 
-    cut-report : {r : Report} → Started asked first second r → SaidCut first second → r .first ≡ Cut
-    cut-report (unsound u) (inl e) = e
-    cut-report (unsound u) (inr c) = let s = c .0 in let t = c .1 in cc
-    cut-report (sound s t w) (inl e) = cc
-    cut-report (sound s t w) (inr c) = ahead-walk-cut w (c .2 .place) (c .2 .there) (c .2 .other-uncut)
+  cut-report : {r : Report} → Started asked first second r → SaidCut first second → r .first ≡ Cut
+  cut-report (unsound u) (inl e) = e
+  cut-report (unsound u) (inr c) = let s = c .0 in let t = c .1 in cc
+  cut-report (sound s t w) (inl e) = cc
+  cut-report (sound s t w) (inr c) = ahead-walk-cut w (c .2 .place) (c .2 .there) (c .2 .other-uncut)
 
-    report-version : {r : Report} → Started asked first second r → (r .first ≡ Version) ↔ (startOf first ≡ Version)
-    report-version (unsound u) = (λ e. e, λ e. e)
-    report-version (sound s t w) = (λ e. absurd (walk-never-version w e), λ e. cc)
+  report-version : {r : Report} → Started asked first second r → (r .first ≡ Version) ↔ (startOf first ≡ Version)
+  report-version (unsound u) = (λ e. e, λ e. e)
+  report-version (sound s t w) = (λ e. absurd (walk-never-version w e), λ e. cc)
 
 module _ (asked : Asked) (first second : List ℕ) where
   -- "; version" is said of the first side exactly if its version byte is not known.

@@ -6,7 +6,7 @@ use mathlib.Core.List.{List, [], _∷_, _++_}
 use Prim.Native.Nat.{ℕ, _+_, _^_, _≤_, _<_}
 use native.Mathlib.Omega.{arith}
 use lib.Dec.{leb}
-use lib.ListN.{length, getD, drop, length-append, drop-of-length-le}
+use lib.ListN.{length, drop, length-append, drop-of-length-le}
 use lib.Seq.{drop-cons}
 use borrow.Author.Tests.{leb-true, leb-false}
 use Rattle.text.specs.Words.{bytes}
@@ -14,6 +14,7 @@ use Rattle.text.proofs.Choosing.{cond-by}
 use Rattle.numerals.specs.Decimals.{decimal}
 use Rattle.numerals.proofs.Tens.{decimal-most}
 use Rattle.answers.specs.Lines.{newline}
+use Rattle.frames.specs.Numbers.{byte}
 use Rattle.frames.specs.Frames.{knownVersion}
 use Rattle.listings.specs.Lines.{cutLine, versionLine}
 use Rattle.compared.specs.declared.Side.{Side}
@@ -37,8 +38,8 @@ wanting-at xs at =
 pub start-none : (xs : List ℕ) (at : ℕ) → length xs ≤ at → startOf (drop at xs) ≡ Cut
 start-none xs at h = rw (drop-of-length-le xs h)
 
-pub start-some : (xs : List ℕ) (at : ℕ) {known : Bool} → at < length xs → knownVersion (getD xs at 0) ≡ known → startOf (drop at xs) ≡ cond known Sound Version
-start-some xs at h e = rw (drop-cons xs at 0 h, e)
+pub start-some : (xs : List ℕ) (at : ℕ) {version : ℕ} {known : Bool} → at < length xs → version ≡ byte xs at → knownVersion version ≡ known → startOf (drop at xs) ≡ cond known Sound Version
+start-some xs at h v e = rw (drop-cons xs at 0 h, ← v, e)
 
 -- a number of 64 bits stands for itself
 pub capped-same : (n : ℕ) → n < 2 ^ 64 → capped n ≡ n

@@ -4,12 +4,14 @@ use mathlib.Core.Path.{_≡_, refl, sym, ap, ap₂, subst, _∙_}
 use mathlib.Core.Bool.{Bool, true, false}
 use mathlib.Core.List.{List, [], _∷_, _++_}
 use Prim.Native.Nat.{ℕ, _+_, _-_, _≤_, _<_}
+use native.Mathlib.Nat.{add-zero}
 use native.Mathlib.Omega.{arith}
 use lib.Dec.{lit≤, lit<}
 use lib.ListN.{length, take, drop, length-drop, drop-of-length-le}
-use lib.Seq.{drop-drop}
+use lib.Seq.{drop-drop, getD-drop}
 use Rattle.text.specs.Code.{Put}
 use Rattle.text.proofs.Putting.{put-none}
+use Rattle.frames.specs.Numbers.{byte}
 use Rattle.frames.specs.Frames.{bodyLength}
 use Rattle.frames.proofs.FrameAt.{WholeAt}
 use Rattle.cursors.specs.Code.{placeAfter, Sees}
@@ -17,6 +19,7 @@ use Rattle.cursors.specs.declared.Stands.{Stands}
 use Rattle.cursors.specs.declared.Stands.the-variants.{Body, End, Cut, More}
 use Rattle.cursors.proofs.StandsAt.{body-stands, end-stands, cut-stands, more-stands}
 use Rattle.records.specs.declared.Asked.{Asked}
+use Rattle.compared.specs.declared.AskedSides.{AskedSides}
 use Rattle.compared.specs.declared.Side.{Side}
 use Rattle.compared.specs.declared.Side.the-variants.{Sound}
 use Rattle.compared.specs.declared.Noted.{Noted}
@@ -24,10 +27,10 @@ use Rattle.compared.specs.declared.Next.the-variants.{On, First as Wants
 use Rattle.compared.specs.declared.Stage.{Stage}
 use Rattle.compared.specs.declared.Passed.{Passed}
 use Rattle.compared.specs.declared.Stage.the-variants.{Versions, Records, Done}
-use Rattle.compared.specs.Places.{Found, startOf, isCut}
+use Rattle.compared.specs.Places.{Found, startOf, versionOf, isCut}
 use Rattle.compared.specs.Places.Found.{found, none}
 use Rattle.compared.specs.Events.{naming, eventsAt}
-use Rattle.compared.specs.Report.{notSame}
+use Rattle.compared.specs.Report.{inVersions, notSame}
 use Rattle.compared.specs.Text.{capped, eventsText, endText, longestEvent}
 use Rattle.cursors.specs.Longest.{longestFrame}
 use Rattle.compared.specs.Pass.{Comes, Goes}
@@ -140,19 +143,20 @@ pub steps-done : {asked : Asked} {different : Bool} {xs ys : List ℕ} {at at′
 steps-done placed = steps-end placed [] goes-none put-none (lit≤ tt)
 
 -- what is said of a record where one stands, on both sides or on one
-pub steps-note : {asked : Asked} {xs ys : List ℕ} {at at′ : ℕ} {ended ended′ : Bool} {f g : Found} {p q : ℕ} {before : List ℕ} {out number named number′ : ℕ} {noted : Noted} {after : List ℕ} → Placed xs at ended f p → Placed ys at′ ended′ g q → at + at′ < p + q → number′ ≡ capped (number + 1) → Notes asked number named f g before out noted after → Steps asked (Records number named) xs ys at at′ ended ended′ before out (record { stage = Records number′ (noted .named); first = p; second = q; out = noted .out; next = On }) after
-steps-note {asked} {xs} {ys} {at} {at′} {ended} {ended′} {f} {g} {p} {q} {number = number} {named} {number′} {noted} x y some e notes =
+pub steps-note : {asked : Asked} {sides : AskedSides} {xs ys : List ℕ} {at at′ : ℕ} {ended ended′ : Bool} {f g : Found} {p q : ℕ} {before : List ℕ} {out number named v w number′ : ℕ} {noted : Noted} {after : List ℕ} → Placed xs at ended f p → Placed ys at′ ended′ g q → at + at′ < p + q → number′ ≡ capped (number + 1) → sides ≡ inVersions v w asked → Notes sides number named f g before out noted after → Steps asked (Records number named v w) xs ys at at′ ended ended′ before out (record { stage = Records number′ (noted .named) v w; first = p; second = q; out = noted .out; next = On }) after
+steps-note {asked} {sides} {xs} {ys} {at} {at′} {ended} {ended′} {f} {g} {p} {q} {before} {out} {number} {named} {v} {w} {number′} {noted} {after} x y some e told noted-there =
     let left : drop (x .size) (drop at xs) ≡ drop p xs = drop-drop (x .size) at xs ∙ ap (λ (n : ℕ). drop n xs) (sym (x .after)) in
     let left′ : drop (y .size) (drop at′ ys) ≡ drop q ys = drop-drop (y .size) at′ ys ∙ ap (λ (n : ℕ). drop n ys) (sym (y .after)) in
-    let says = eventsText (eventsAt number (naming asked f g)) in
-    let goes = goes-on asked (drop at xs) (drop at′ ys) (x .front) (y .front) (omega (arith, some, x .after, y .after)) number named e (notes .count) in
+    let notes : Notes (inVersions v w asked) number named f g before out noted after = subst (λ (s : AskedSides). Notes s number named f g before out noted after) told noted-there in
+    let says = eventsText (eventsAt number (naming (inVersions v w asked) f g)) in
+    let goes = goes-on asked (drop at xs) (drop at′ ys) (x .front) (y .front) (omega (arith, some, x .after, y .after)) v w number named e (notes .count) in
     record {
       says = says;
       put = notes .put;
       goes =
-          subst (λ (us : List ℕ). Goes asked ended ended′ (Records number named) (drop at xs) (drop at′ ys) says (Records number′ (noted .named)) us (drop q ys)) left
-          (subst (λ (vs : List ℕ). Goes asked ended ended′ (Records number named) (drop at xs) (drop at′ ys) says (Records number′ (noted .named)) (drop (x .size) (drop at xs)) vs) left′ goes);
-      short = events-most asked number f g;
+          subst (λ (us : List ℕ). Goes asked ended ended′ (Records number named v w) (drop at xs) (drop at′ ys) says (Records number′ (noted .named) v w) us (drop q ys)) left
+          (subst (λ (vs : List ℕ). Goes asked ended ended′ (Records number named v w) (drop at xs) (drop at′ ys) says (Records number′ (noted .named) v w) (drop (x .size) (drop at xs)) vs) left′ goes);
+      short = events-most (inVersions v w asked) number f g;
       onward = (omega (arith, x .after), omega (arith, y .after));
       within = (x .within, y .within);
       follows = follows-on refl (omega (arith, some, x .after, y .after));
@@ -168,26 +172,36 @@ sound-some : (xs : List ℕ) → startOf xs ≡ Sound → 0 < length xs
 sound-some [] e = absurd (let z : _≡_ {A = ℕ} 0 1 = cc in omega arith)
 sound-some (x ∷ xs) e = omega arith
 
+-- the byte at a side's place is the version of what stands there
+version-at : (xs : List ℕ) (at : ℕ) {v : ℕ} → v ≡ byte xs at → versionOf (drop at xs) ≡ v
+version-at xs at e = getD-drop at xs 0 0 ∙ ap (byte xs) (add-zero at) ∙ sym e
+
+-- where both sides are found sound, both have their version byte
+pub known-there : (xs ys : List ℕ) (at at′ : ℕ) {a b : Side} {differ : Bool} → a ≡ startOf (drop at xs) → b ≡ startOf (drop at′ ys) → differ ≡ notSame 0 a b → differ ≡ false → (at + 1 ≤ length xs) × (at′ + 1 ≤ length ys)
+known-there xs ys at at′ {a} {b} e e′ told d =
+    let sound = both-sound a b (sym told ∙ d) in
+    let there = sound-some (drop at xs) (sym e ∙ sound .0) in
+    let there′ = sound-some (drop at′ ys) (sym e′ ∙ sound .1) in
+    (omega (arith, there, length-drop at xs), omega (arith, there′, length-drop at′ ys))
+
 module _ {asked : Asked} {xs ys : List ℕ} {at at′ : ℕ} {ended ended′ : Bool} {before : List ℕ} {out : ℕ} (placed : (at ≤ length xs) × (at′ ≤ length ys)) {a b : Side} (e : a ≡ startOf (drop at xs)) (e′ : b ≡ startOf (drop at′ ys)) {differ : Bool} (told : differ ≡ notSame 0 a b) where
   pub steps-unknown : {next : ℕ} {after : List ℕ} → wanting (drop at xs) ended ≡ false → wanting (drop at′ ys) ended′ ≡ false → differ ≡ true → Put before out (endText a b 0) next after → Steps asked Versions xs ys at at′ ended ended′ before out (record { stage = Done true; first = at; second = at′; out = next; next = Nothing }) after
   steps-unknown w w′ d put =
       steps-end placed (endText a b 0)
       (rw (e, e′) (goes-unknown asked (drop at xs) (drop at′ ys) w w′ (ap₂ (notSame 0) (sym e) (sym e′) ∙ sym told ∙ d))) put (end-most a b 0)
 
-  pub steps-known : differ ≡ false → Steps asked Versions xs ys at at′ ended ended′ before out (record { stage = Records 0 0; first = at + 1; second = at′ + 1; out = out; next = On }) before
-  steps-known d =
+  pub steps-known : {v w : ℕ} → differ ≡ false → v ≡ byte xs at → w ≡ byte ys at′ → Steps asked Versions xs ys at at′ ended ended′ before out (record { stage = Records 0 0 v w; first = at + 1; second = at′ + 1; out = out; next = On }) before
+  steps-known d i j =
       let sound = both-sound a b (sym told ∙ d) in
-      let first : startOf (drop at xs) ≡ Sound = sym e ∙ sound .0 in
-      let second : startOf (drop at′ ys) ≡ Sound = sym e′ ∙ sound .1 in
-      let there = sound-some (drop at xs) first in
-      let there′ = sound-some (drop at′ ys) second in
       record {
         says = [];
         put = put-none;
-        goes = rw (← (drop-drop 1 at xs), ← (drop-drop 1 at′ ys)) (goes-known asked (drop at xs) (drop at′ ys) first second);
+        goes =
+            rw (← (drop-drop 1 at xs), ← (drop-drop 1 at′ ys), ← (version-at xs at i), ← (version-at ys at′ j))
+            (goes-known asked (drop at xs) (drop at′ ys) (sym e ∙ sound .0) (sym e′ ∙ sound .1));
         short = lit≤ tt;
         onward = (omega arith, omega arith);
-        within = (omega (arith, there, length-drop at xs), omega (arith, there′, length-drop at′ ys));
+        within = known-there xs ys at at′ e e′ told d;
         follows = follows-on refl (omega arith);
       }
 

@@ -7,12 +7,13 @@ use Prim.Native.Nat.{ℕ}
 use Rattle.text.specs.Words.{empty, same}
 use Rattle.records.specs.declared.Asked.{Asked}
 use Rattle.records.specs.Lines.{recordLine}
+use Rattle.compared.specs.declared.AskedSides.{AskedSides}
 use Rattle.compared.specs.Places.{Found, startOf, frontRecord, isCut}
 use Rattle.compared.specs.Places.Found.{found, none}
 use Rattle.compared.specs.Events.{Kind, Naming, kindOf, naming, Event, eventsAt}
 use Rattle.compared.specs.Events.Kind.{differ, sameLine}
 use Rattle.compared.specs.Events.Naming.{unnamed, named}
-use Rattle.compared.specs.Report.{Report, before, walk, isSound, reportOf}
+use Rattle.compared.specs.Report.{Report, before, walk, isSound, sidesOf, reportOf}
 use Rattle.compared.specs.Statements.{swapKind, swapEvent, swapped}
 use Rattle.compared.proofs.Walks.{walk-cut, walk-empty, walk-step, Walked, Started, started}
 use Rattle.compared.proofs.Walks.Walked.{cut, over, on}
@@ -45,32 +46,37 @@ swap-before : (n : ℕ) (what : Naming) (es : List Event) → map swapEvent (eve
 swap-before n unnamed es = refl
 swap-before n (named kind) es = refl
 
-module _ (asked : Asked) where
-  naming-swapped : (f g : Found) → naming asked g f ≡ swapNaming (naming asked f g)
+-- what is asked of each, with the sides exchanged
+abbrev exchanged : AskedSides → AskedSides
+exchanged sides = record { first = sides .second; second = sides .first }
+
+module _ (sides : AskedSides) where
+  naming-swapped : (f g : Found) → naming (exchanged sides) g f ≡ swapNaming (naming sides f g)
   naming-swapped (found a) (found b) =
-      let l = recordLine asked a in
-      let m = recordLine asked b in
+      let l = recordLine (sides .first) a in
+      let m = recordLine (sides .second) b in
       rw (same-swapped a b, kind-swapped l m) (swap-cond (same a b) (kindOf l m))
   naming-swapped (found a) none = refl
   naming-swapped none (found b) = refl
   naming-swapped none none = refl
 
-  swap-step : (n : ℕ) (f g : Found) (r : Report) → before (eventsAt n (naming asked g f)) (swapped r) ≡ swapped (before (eventsAt n (naming asked f g)) r)
+  swap-step : (n : ℕ) (f g : Found) (r : Report) → before (eventsAt n (naming (exchanged sides) g f)) (swapped r) ≡ swapped (before (eventsAt n (naming sides f g)) r)
   swap-step n f g r =
       rw (naming-swapped f g)
-      (ap (λ (es : List Event). record { events = es; first = r .second; second = r .first }) (sym (swap-before n (naming asked f g) (r .events))))
+      (ap (λ (es : List Event). record { events = es; first = r .second; second = r .first }) (sym (swap-before n (naming sides f g) (r .events))))
 
-  walk-swapped : {n : ℕ} {xs ys : List ℕ} {r : Report} → Walked asked n xs ys r → walk asked n ys xs ≡ swapped r
-  walk-swapped (cut {n} {xs} {ys} c) = walk-cut asked n ys xs (or-comm (isCut ys) (isCut xs) ∙ c)
-  walk-swapped (over {n}) = walk-empty asked n
+  walk-swapped : {n : ℕ} {xs ys : List ℕ} {r : Report} → Walked sides n xs ys r → walk (exchanged sides) n ys xs ≡ swapped r
+  walk-swapped (cut {n} {xs} {ys} c) = walk-cut (exchanged sides) n ys xs (or-comm (isCut ys) (isCut xs) ∙ c)
+  walk-swapped (over {n}) = walk-empty (exchanged sides) n
   walk-swapped (on {n} {xs} {ys} {r} c some w) =
-      walk-step asked n ys xs (or-comm (isCut ys) (isCut xs) ∙ c) (and-comm (empty ys) (empty xs) ∙ some)
-      ∙ ap (before (eventsAt n (naming asked (frontRecord ys) (frontRecord xs)))) (walk-swapped w)
+      walk-step (exchanged sides) n ys xs (or-comm (isCut ys) (isCut xs) ∙ c) (and-comm (empty ys) (empty xs) ∙ some)
+      ∙ ap (before (eventsAt n (naming (exchanged sides) (frontRecord ys) (frontRecord xs)))) (walk-swapped w)
       ∙ swap-step n (frontRecord xs) (frontRecord ys) r
 
+module _ (asked : Asked) where
   started-swapped : {first second : List ℕ} {r : Report} → Started asked first second r → reportOf asked second first ≡ swapped r
   unfolding reportOf
-  started-swapped (sound s t w) = rw (s, t) (walk-swapped w)
+  started-swapped {first} {second} (sound s t w) = rw (s, t) (walk-swapped (sidesOf asked first second) w)
   started-swapped {first} {second} (unsound u) = rw (and-comm (isSound (startOf second)) (isSound (startOf first)) ∙ u)
 
   -- Listings that change sides exchange the sides of the report.

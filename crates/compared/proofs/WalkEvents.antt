@@ -7,7 +7,7 @@ use mathlib.Core.List.{List, [], _++_, List·Memᴰ as Among, List·Memᴰ·head
 use Prim.Native.Nat.{ℕ, zero, suc, _+_, _≤_}
 use native.Mathlib.Nat.{le-of-suc-le-suc}
 use native.Mathlib.Omega.{arith}
-use Rattle.records.specs.declared.Asked.{Asked}
+use Rattle.compared.specs.declared.AskedSides.{AskedSides}
 use Rattle.compared.specs.Places.{after, frontRecord, isCut}
 use Rattle.compared.specs.Events.{Kind, Naming, naming, Event, eventsAt}
 use Rattle.compared.specs.Events.Naming.{unnamed, named}
@@ -57,39 +57,39 @@ unfolding after
 uncut-left xs ys w j h = w (suc j) (omega (arith, h))
 
 -- where an event of a walk stands
-pub record At (asked : Asked) (n : ℕ) (xs ys : List ℕ) (e : Event) : Type 0 where
+pub record At (sides : AskedSides) (n : ℕ) (xs ys : List ℕ) (e : Event) : Type 0 where
   pub place : ℕ
   pub number : e .number ≡ n + place
   pub uncut : Uncut xs ys place
-  pub differs : naming asked (frontRecord (after place xs)) (frontRecord (after place ys)) ≡ named (e .kind)
+  pub differs : naming sides (frontRecord (after place xs)) (frontRecord (after place ys)) ≡ named (e .kind)
 
-module _ {asked : Asked} where
-  at-front : {n : ℕ} {xs ys : List ℕ} {e : Event} → (isCut xs || isCut ys) ≡ false → (e .number ≡ n) × (naming asked (frontRecord xs) (frontRecord ys) ≡ named (e .kind)) → At asked n xs ys e
+module _ {sides : AskedSides} where
+  at-front : {n : ℕ} {xs ys : List ℕ} {e : Event} → (isCut xs || isCut ys) ≡ false → (e .number ≡ n) × (naming sides (frontRecord xs) (frontRecord ys) ≡ named (e .kind)) → At sides n xs ys e
   unfolding after
   at-front {n} {xs} {ys} c f = record { place = 0; number = omega (arith, f .0); uncut = uncut-zero xs ys c; differs = f .1 }
 
-  at-left : {n : ℕ} {xs ys : List ℕ} {e : Event} → (isCut xs || isCut ys) ≡ false → At asked (suc n) (left xs) (left ys) e → At asked n xs ys e
+  at-left : {n : ℕ} {xs ys : List ℕ} {e : Event} → (isCut xs || isCut ys) ≡ false → At sides (suc n) (left xs) (left ys) e → At sides n xs ys e
   unfolding after
   at-left {n} {xs} {ys} c a =
       record { place = suc (a .place); number = omega (arith, a .number); uncut = uncut-suc xs ys c (a .uncut); differs = a .differs }
 
   -- each event of a walk is there for a difference
-  pub event-at : {n : ℕ} {xs ys : List ℕ} {r : Report} {e : Event} → Walked asked n xs ys r → Among e (r .events) → At asked n xs ys e
+  pub event-at : {n : ℕ} {xs ys : List ℕ} {r : Report} {e : Event} → Walked sides n xs ys r → Among e (r .events) → At sides n xs ys e
   event-at (cut c) m = absurd (elim m [ ])
   event-at over m = absurd (elim m [ ])
   event-at {e = e} (on {n} {xs} {ys} {r} c some w) m =
-      go (among-two n (naming asked (frontRecord xs) (frontRecord ys)) (r .events) m) (λ (m : Among e (r .events)). event-at w m)
+      go (among-two n (naming sides (frontRecord xs) (frontRecord ys)) (r .events) m) (λ (m : Among e (r .events)). event-at w m)
     where
-      go : ((e .number ≡ n) × (naming asked (frontRecord xs) (frontRecord ys) ≡ named (e .kind))) ⊎ Among e (r .events) → (Among e (r .events) → At asked (suc n) (left xs) (left ys) e) → At asked n xs ys e
+      go : ((e .number ≡ n) × (naming sides (frontRecord xs) (frontRecord ys) ≡ named (e .kind))) ⊎ Among e (r .events) → (Among e (r .events) → At sides (suc n) (left xs) (left ys) e) → At sides n xs ys e
       go (inl f) rest = at-front c f
       go (inr m) rest = at-left c (rest m)
 
   -- for each difference there is an event
-  pub at-event : {n : ℕ} {xs ys : List ℕ} {r : Report} {kind : Kind} → Walked asked n xs ys r → (k m : ℕ) → m ≡ n + k → Uncut xs ys k → naming asked (frontRecord (after k xs)) (frontRecord (after k ys)) ≡ named kind → Among (record { number = m; kind = kind }) (r .events)
+  pub at-event : {n : ℕ} {xs ys : List ℕ} {r : Report} {kind : Kind} → Walked sides n xs ys r → (k m : ℕ) → m ≡ n + k → Uncut xs ys k → naming sides (frontRecord (after k xs)) (frontRecord (after k ys)) ≡ named kind → Among (record { number = m; kind = kind }) (r .events)
   unfolding after
   at-event (cut c) k m e w d = absurd (let f = w 0 (omega arith) in let z : _≡_ {A = ℕ} 0 1 = cc in omega (arith, z))
   at-event over k m e w d =
       absurd (let f = after-none k in let z : _≡_ {A = ℕ} 0 1 = cc in omega (arith, z))
   at-event (on {n} {xs} {ys} {r} c some walk) zero m e w d = among-at (r .events) (omega (arith, e)) d
   at-event (on {n} {xs} {ys} {r} c some walk) (suc k) m e w d =
-      among-after n (naming asked (frontRecord xs) (frontRecord ys)) (at-event walk k m (omega (arith, e)) (uncut-left xs ys w) d)
+      among-after n (naming sides (frontRecord xs) (frontRecord ys)) (at-event walk k m (omega (arith, e)) (uncut-left xs ys w) d)

@@ -14,6 +14,7 @@ use Rattle.cursors.specs.declared.Stands.{Stands}
 use Rattle.cursors.specs.declared.Stands.the-variants.{Body, End, Cut, More}
 use Rattle.records.specs.declared.Asked.{Asked}
 use Rattle.compared.specs.declared.Side.the-variants.{Sound, Cut as SideCut}
+use Rattle.compared.specs.declared.AskedSides.{AskedSides}
 use Rattle.compared.specs.declared.Turn.{Turn}
 use Rattle.compared.specs.declared.Turn.the-variants.{First, Second, Ends, Both, OnlyFirst, OnlySecond}
 use Rattle.compared.specs.declared.Noted.{Noted}
@@ -48,8 +49,9 @@ turnOf End End = Ends Sound Sound
 unfoldable pub headText : ℕ → List ℕ
 headText number = bytes "record " ++ decimal number
 
-unfoldable pub differingText : Asked → ℕ → (first second : List ℕ) → List ℕ
-differingText asked number first second = headText number ++ kindText (kindOf (recordLine asked first) (recordLine asked second))
+unfoldable pub differingText : AskedSides → ℕ → (first second : List ℕ) → List ℕ
+differingText sides number first second =
+    headText number ++ kindText (kindOf (recordLine (sides .first) first) (recordLine (sides .second) second))
 
 unfoldable pub onlyText : Asked → ℕ → (words body : List ℕ) → List ℕ
 onlyText asked number words body = headText number ++ (words ++ recordLine asked body)
@@ -60,9 +62,9 @@ pub record LineAside (asked : Asked) (body : List ℕ) (r : ℕ) (line : List �
   pub text : take r line ≡ recordLine asked body
 
 -- what was put of a record that stands, or not, on each side, and how many are named then
-pub record Notes (asked : Asked) (number named : ℕ) (first second : Found) (before : List ℕ) (at : ℕ) (r : Noted) (after : List ℕ) : Type 0 where
-  pub put : Put before at (eventsText (eventsAt number (naming asked first second))) (r .out) after
-  pub count : r .named ≡ capped (named + length (eventsAt number (naming asked first second)))
+pub record Notes (sides : AskedSides) (number named : ℕ) (first second : Found) (before : List ℕ) (at : ℕ) (r : Noted) (after : List ℕ) : Type 0 where
+  pub put : Put before at (eventsText (eventsAt number (naming sides first second))) (r .out) after
+  pub count : r .named ≡ capped (named + length (eventsAt number (naming sides first second)))
 
 -- the code's step from a place in each listing: what it says was put, and it goes on from there
 pub record Steps (asked : Asked) (stage : Stage) (xs ys : List ℕ) (at at′ : ℕ) (ended ended′ : Bool) (before : List ℕ) (out : ℕ) (r : Passed) (after : List ℕ) : Type 0 where

@@ -4,8 +4,8 @@ use mathlib.Core.Bool.{cond}
 use mathlib.Core.List.{List, [], _∷_}
 use Prim.Native.Nat.{ℕ}
 use Rattle.text.specs.Words.{same}
-use Rattle.records.specs.declared.Asked.{Asked}
 use Rattle.records.specs.Lines.{recordLine}
+use Rattle.compared.specs.declared.AskedSides.{AskedSides}
 use Rattle.compared.specs.Places.{Found}
 use Rattle.compared.specs.Places.Found.{found, none}
 
@@ -28,12 +28,14 @@ pub data Naming : Type 0 where
 abbrev pub kindOf : (first second : List ℕ) → Kind
 kindOf first second = cond (same first second) (sameLine first) (differ first second)
 
--- "Two records are the same when their bodies are; lines decide nothing there."
-abbrev pub naming : Asked → (first second : Found) → Naming
-naming asked (found a) (found b) = cond (same a b) unnamed (named (kindOf (recordLine asked a) (recordLine asked b)))
-naming asked (found a) none = named (onlyFirst (recordLine asked a))
-naming asked none (found b) = named (onlySecond (recordLine asked b))
-naming asked none none = unnamed
+-- "Two records are the same when their bodies are; lines decide nothing there." So it is between two versions as well. A line that is
+-- shown is by what is asked of its own side.
+abbrev pub naming : AskedSides → (first second : Found) → Naming
+naming sides (found a) (found b) =
+    cond (same a b) unnamed (named (kindOf (recordLine (sides .first) a) (recordLine (sides .second) b)))
+naming sides (found a) none = named (onlyFirst (recordLine (sides .first) a))
+naming sides none (found b) = named (onlySecond (recordLine (sides .second) b))
+naming sides none none = unnamed
 
 -- a record that is named, by its number
 pub record Event : Type 0 where

@@ -12,19 +12,19 @@ use Rattle.compared.specs.declared.Stage.the-variants.{Versions, Records
 use Rattle.compared.specs.declared.Next.{Next}
 use Rattle.compared.specs.declared.Next.the-variants.{On, First, Second, Nothing}
 use Rattle.compared.specs.declared.Passed.{Passed}
-use Rattle.compared.specs.Report.{walk, reportOf, isDifferent}
+use Rattle.compared.specs.Report.{walk, inVersions, reportOf, isDifferent}
 use Rattle.compared.specs.Text.{reportText, comparison}
 
 -- what is still to be said from a stage on, if all that is to come is xs on the first side and ys on the second
 unfoldable pub saying : Asked → Stage → (xs ys : List ℕ) → List ℕ
 saying asked Versions xs ys = comparison asked xs ys
-saying asked (Records number named) xs ys = reportText named (walk asked number xs ys)
+saying asked (Records number named v w) xs ys = reportText named (walk (inVersions v w asked) number xs ys)
 saying asked (Done different) xs ys = []
 
 -- whether anything is reported then
 unfoldable pub differing : Asked → Stage → (xs ys : List ℕ) → Bool
 differing asked Versions xs ys = isDifferent 0 (reportOf asked xs ys)
-differing asked (Records number named) xs ys = isDifferent named (walk asked number xs ys)
+differing asked (Records number named v w) xs ys = isDifferent named (walk (inVersions v w asked) number xs ys)
 differing asked (Done different) xs ys = different
 
 -- what may still come on a side: where it has ended, nothing

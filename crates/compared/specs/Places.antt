@@ -5,6 +5,7 @@ use mathlib.Core.List.{List, [], _∷_}
 use Prim.Native.Nat.{ℕ, zero, suc}
 use lib.ListN.{drop}
 use Rattle.text.specs.Words.{empty}
+use Rattle.frames.specs.Numbers.{byte}
 use Rattle.frames.specs.Frames.{isWhole, bodyOf, frameSize, knownVersion}
 use Rattle.compared.specs.declared.Side.{Side}
 use Rattle.compared.specs.declared.Side.the-variants.{Sound, Cut, Version}
@@ -18,6 +19,10 @@ pub data Found : Type 0 where
 abbrev pub startOf : List ℕ → Side
 startOf [] = Cut
 startOf (version ∷ xs) = cond (knownVersion version) Sound Version
+
+-- a listing's version byte
+abbrev pub versionOf : List ℕ → ℕ
+versionOf listing = byte listing 0
 
 -- what is left of frames after k of them; after one that is cut nothing is left
 unfoldable pub after : ℕ → List ℕ → List ℕ

@@ -12,6 +12,7 @@ ghost use Rattle.compared.specs.Places.Found.{found, none};
 ghost use Rattle.compared.specs.Text.{capped, kindText, longestEvent};
 ghost use Rattle.lines.specs.Text.{longestLine};
 ghost use Rattle.compared.specs.Code.{Notes, LineAside, headText, differingText, onlyText};
+use crate::AskedSides;
 use crate::Noted;
 use crate::same::same_bytes;
 use lines::LONGEST_LINE;
@@ -101,7 +102,7 @@ fn put_differing(
     number: u64,
     first: &[u8],
     second: &[u8],
-    asked: Asked,
+    sides: AskedSides,
     text: &mut [u8],
     at: usize,
 ) -> usize
@@ -110,8 +111,10 @@ fn put_differing(
     requires { ⌜ LabelTable (now «label_letters») (now «label_starts») ⌝ }
     requires { ⌜ ArmTable (now arms) ⌝ }
     requires { ⌜ at + longestEvent ≤ length (now text) ⌝ }
-    ensures { λ r. ⌜ Put (now (text .entry)) at (differingText asked number (now (first .entry)) (now (second .entry))) r (now (text .exit)) ⌝ }
+    ensures { λ r. ⌜ Put (now (text .entry)) at (differingText sides number (now (first .entry)) (now (second .entry))) r (now (text .exit)) ⌝ }
 {
+    let first_asked = sides.first;
+    let second_asked = sides.second;
     let mut first_line = [0; LONGEST_LINE + 1];
     let mut second_line = [0; LONGEST_LINE + 1];
     let first_length = line_of(
@@ -123,7 +126,7 @@ fn put_differing(
         label_starts,
         arms,
         first,
-        asked,
+        first_asked,
         &mut first_line,
     );
     let second_length = line_of(
@@ -135,7 +138,7 @@ fn put_differing(
         label_starts,
         arms,
         second,
-        asked,
+        second_asked,
         &mut second_line,
     );
     let next = put_number(text, at, number);
@@ -160,7 +163,7 @@ pub fn note_both(
     named: u64,
     first: &[u8],
     second: &[u8],
-    asked: Asked,
+    sides: AskedSides,
     text: &mut [u8],
     at: usize,
 ) -> Noted
@@ -169,7 +172,7 @@ pub fn note_both(
     requires { ⌜ LabelTable (now «label_letters») (now «label_starts») ⌝ }
     requires { ⌜ ArmTable (now arms) ⌝ }
     requires { ⌜ at + longestEvent ≤ length (now text) ⌝ }
-    ensures { λ r. ⌜ Notes asked number named (found (now (first .entry))) (found (now (second .entry))) (now (text .entry)) at r (now (text .exit)) ⌝ }
+    ensures { λ r. ⌜ Notes sides number named (found (now (first .entry))) (found (now (second .entry))) (now (text .entry)) at r (now (text .exit)) ⌝ }
 {
     if same_bytes(first, second) {
         return Noted { out: at, named };
@@ -185,7 +188,7 @@ pub fn note_both(
         number,
         first,
         second,
-        asked,
+        sides,
         text,
         at,
     );
@@ -248,7 +251,7 @@ pub fn note_first(
     number: u64,
     named: u64,
     body: &[u8],
-    asked: Asked,
+    sides: AskedSides,
     text: &mut [u8],
     at: usize,
 ) -> Noted
@@ -257,8 +260,9 @@ pub fn note_first(
     requires { ⌜ LabelTable (now «label_letters») (now «label_starts») ⌝ }
     requires { ⌜ ArmTable (now arms) ⌝ }
     requires { ⌜ at + longestEvent ≤ length (now text) ⌝ }
-    ensures { λ r. ⌜ Notes asked number named (found (now (body .entry))) none (now (text .entry)) at r (now (text .exit)) ⌝ }
+    ensures { λ r. ⌜ Notes sides number named (found (now (body .entry))) none (now (text .entry)) at r (now (text .exit)) ⌝ }
 {
+    let asked = sides.first;
     let out = put_only(
         name_letters,
         name_starts,
@@ -291,7 +295,7 @@ pub fn note_second(
     number: u64,
     named: u64,
     body: &[u8],
-    asked: Asked,
+    sides: AskedSides,
     text: &mut [u8],
     at: usize,
 ) -> Noted
@@ -300,8 +304,9 @@ pub fn note_second(
     requires { ⌜ LabelTable (now «label_letters») (now «label_starts») ⌝ }
     requires { ⌜ ArmTable (now arms) ⌝ }
     requires { ⌜ at + longestEvent ≤ length (now text) ⌝ }
-    ensures { λ r. ⌜ Notes asked number named none (found (now (body .entry))) (now (text .entry)) at r (now (text .exit)) ⌝ }
+    ensures { λ r. ⌜ Notes sides number named none (found (now (body .entry))) (now (text .entry)) at r (now (text .exit)) ⌝ }
 {
+    let asked = sides.second;
     let out = put_only(
         name_letters,
         name_starts,

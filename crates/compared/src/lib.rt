@@ -7,6 +7,14 @@ pub mod settle;
 pub mod sides;
 pub mod steps;
 
+use records::Asked;
+
+// What is asked of the records of each side: their lines are by that side's own version.
+pub struct AskedSides {
+    pub first: Asked,
+    pub second: Asked,
+}
+
 // What is to be said of a side: nothing, that it is cut, or that its version byte is not known.
 pub enum Side {
     Sound,
@@ -39,12 +47,19 @@ pub enum Turn {
     },
 }
 
-// How far the comparison has come: nothing yet; before a record, with its number and how many were named; or to its end, and whether
-// anything was reported.
+// How far the comparison has come: nothing yet; before a record, with its number, how many were named, and each side's version; or to
+// its end, and whether anything was reported.
 pub enum Stage {
     Versions,
-    Records { number: u64, named: u64 },
-    Done { different: bool },
+    Records {
+        number: u64,
+        named: u64,
+        first_version: u32,
+        second_version: u32,
+    },
+    Done {
+        different: bool,
+    },
 }
 
 // What comes next: more of what is held, once the text is handed out; bytes of the first or of the second listing, if there are any;

@@ -4,11 +4,15 @@ ghost use mathlib.Core.List.{List};
 ghost use lib.ListN.{drop};
 ghost use Rattle.text.specs.Code.{Room, Put};
 ghost use Rattle.compared.specs.Places.{startOf};
-ghost use Rattle.compared.specs.Report.{isSound, notSame};
+ghost use Rattle.compared.specs.Report.{isSound, inVersions, notSame};
 ghost use Rattle.compared.specs.Text.{sideText, countLine, endText};
 ghost use Rattle.compared.specs.Code.{wanting};
+use crate::AskedSides;
 use crate::Side;
+use frames::numbers::byte_at;
 use numerals::decimals::put_decimal;
+use records::Asked;
+use records::judge::in_version;
 
 // Whether the version byte is still to come.
 pub fn wanting_at(listing: &[u8], at: usize, ended: bool) -> bool
@@ -27,10 +31,20 @@ pub fn start_of(listing: &[u8], at: usize) -> Side
     if listing.len() <= at {
         return Side::Cut;
     }
-    if frames::known_version(listing[at]) {
+    if frames::known_version(byte_at(listing, at)) {
         Side::Sound
     } else {
         Side::Version
+    }
+}
+
+// The same asked of both sides, of records of their versions.
+pub fn in_versions(first: u32, second: u32, asked: Asked) -> AskedSides
+    ensures { λ r. ⌜ r ≡ inVersions first second asked ⌝ }
+{
+    AskedSides {
+        first: in_version(first, asked),
+        second: in_version(second, asked),
     }
 }
 

@@ -16,12 +16,14 @@ use crate::events::note_first;
 use crate::events::note_second;
 use crate::events::one_more;
 use crate::settle::settle;
+use crate::sides::in_versions;
 use crate::sides::is_sound;
 use crate::sides::not_same;
 use crate::sides::put_end;
 use crate::sides::start_of;
 use crate::sides::wanting_at;
 use cursors::reader::look;
+use frames::numbers::byte_at;
 use names::labels;
 use names::opcodes;
 use names::registers;
@@ -76,6 +78,8 @@ fn step_versions(
         stage: Stage::Records {
             number: 0,
             named: 0,
+            first_version: byte_at(first, first_at),
+            second_version: byte_at(second, second_at),
         },
         first: first_at + 1,
         second: second_at + 1,
@@ -94,6 +98,8 @@ fn step_records(
     arms: &opcodes::Arms,
     number: u64,
     named: u64,
+    first_version: u32,
+    second_version: u32,
     first: &[u8],
     first_at: usize,
     first_ended: bool,
@@ -110,8 +116,9 @@ fn step_records(
     requires { ⌜ ArmTable (now arms) ⌝ }
     requires { ⌜ («first_at» ≤ length (now first)) × («second_at» ≤ length (now second)) ⌝ }
     requires { ⌜ out + longestEvent ≤ length (now text) ⌝ }
-    ensures { λ r. ⌜ Steps asked (Stage.Records number named) (now (first .entry)) (now (second .entry)) «first_at» «second_at» «first_ended» «second_ended» (now (text .entry)) out r (now (text .exit)) ⌝ }
+    ensures { λ r. ⌜ Steps asked (Stage.Records number named «first_version» «second_version») (now (first .entry)) (now (second .entry)) «first_at» «second_at» «first_ended» «second_ended» (now (text .entry)) out r (now (text .exit)) ⌝ }
 {
+    let sides = in_versions(first_version, second_version, asked);
     let first_seen = look(first, first_at, first_ended);
     let second_seen = look(second, second_at, second_ended);
     let first_stands = first_seen.stands;
@@ -120,14 +127,24 @@ fn step_records(
     let second_next = second_seen.next;
     match settle(first_stands, second_stands) {
         Turn::First => Passed {
-            stage: Stage::Records { number, named },
+            stage: Stage::Records {
+                number,
+                named,
+                first_version,
+                second_version,
+            },
             first: first_at,
             second: second_at,
             out,
             next: Next::First,
         },
         Turn::Second => Passed {
-            stage: Stage::Records { number, named },
+            stage: Stage::Records {
+                number,
+                named,
+                first_version,
+                second_version,
+            },
             first: first_at,
             second: second_at,
             out,
@@ -166,7 +183,7 @@ fn step_records(
                 named,
                 &first[a..b],
                 &second[c..d],
-                asked,
+                sides,
                 text,
                 out,
             );
@@ -174,6 +191,8 @@ fn step_records(
                 stage: Stage::Records {
                     number: one_more(number),
                     named: noted.named,
+                    first_version,
+                    second_version,
                 },
                 first: first_next,
                 second: second_next,
@@ -193,7 +212,7 @@ fn step_records(
                 number,
                 named,
                 &first[start..end],
-                asked,
+                sides,
                 text,
                 out,
             );
@@ -201,6 +220,8 @@ fn step_records(
                 stage: Stage::Records {
                     number: one_more(number),
                     named: noted.named,
+                    first_version,
+                    second_version,
                 },
                 first: first_next,
                 second: second_next,
@@ -220,7 +241,7 @@ fn step_records(
                 number,
                 named,
                 &second[start..end],
-                asked,
+                sides,
                 text,
                 out,
             );
@@ -228,6 +249,8 @@ fn step_records(
                 stage: Stage::Records {
                     number: one_more(number),
                     named: noted.named,
+                    first_version,
+                    second_version,
                 },
                 first: first_next,
                 second: second_next,
@@ -277,7 +300,12 @@ pub fn step(
             text,
             out,
         ),
-        Stage::Records { number, named } => step_records(
+        Stage::Records {
+            number,
+            named,
+            first_version,
+            second_version,
+        } => step_records(
             name_letters,
             name_starts,
             register_letters,
@@ -287,6 +315,8 @@ pub fn step(
             arms,
             number,
             named,
+            first_version,
+            second_version,
             first,
             first_at,
             first_ended,

@@ -1,6 +1,6 @@
 -- "records: a two-byte length, then that many body bytes. All numbers are big-endian."
 -- Assumes nothing.
-use mathlib.Core.Bool.{Bool, _&&_, cond}
+use mathlib.Core.Bool.{Bool, _&&_, _||_, cond}
 use mathlib.Core.List.{List}
 use Prim.Native.Nat.{ℕ, _+_}
 use lib.Dec.{eqb, leb}
@@ -25,6 +25,6 @@ bodyOf xs = take (bodyLength xs) (drop 2 xs)
 abbrev pub frameSize : List ℕ → ℕ
 frameSize xs = cond (isWhole xs) (2 + bodyLength xs) (length xs)
 
--- "one version byte, 1, then records"
+-- "one version byte, 1, then records"; document 02, W-205: "the version byte becomes 2 .. Version 1 is still read"
 abbrev pub knownVersion : ℕ → Bool
-knownVersion version = eqb version 1
+knownVersion version = eqb version 1 || eqb version 2

@@ -7,8 +7,10 @@ ghost use Rattle.frames.specs.Code.{frameAt};
 
 pub mod numbers;
 
-// The version byte that is known.
-pub const VERSION: u8 = 1;
+// The version bytes that are known: document 01's, and document 02's, whose bodies hold a start address.
+pub const VERSION_1: u32 = 1;
+
+pub const VERSION_2: u32 = 2;
 
 // What stands at a place of a listing: a whole frame, by the places of its body, or too few bytes for one.
 pub enum Frame {
@@ -16,10 +18,10 @@ pub enum Frame {
     Cut,
 }
 
-pub fn known_version(version: u8) -> bool
+pub fn known_version(version: u32) -> bool
     ensures { λ r. ⌜ r ≡ knownVersion version ⌝ }
 {
-    version == VERSION
+    (version == VERSION_1) | (version == VERSION_2)
 }
 
 pub fn frame_at(listing: &[u8], at: usize) -> Frame

@@ -12,7 +12,7 @@ use Rattle.text.proofs.Choosing.{cond-by, cond-most}
 use Rattle.answers.specs.Refusals.{room, refusal, answerOf}
 use Rattle.answers.specs.Outcomes.{lengthWith, roomRefused, outcomeOf}
 use Rattle.records.specs.declared.Asked.{Asked}
-use Rattle.records.specs.Records.{modeRefused, recordText, recordOutcome}
+use Rattle.records.specs.Records.{inVersion, modeRefused, recordText, recordOutcome}
 use Rattle.records.proofs.Texts as records
 use Rattle.frames.specs.Frames.{knownVersion}
 use Rattle.listings.specs.Lines.{listingText}
@@ -31,7 +31,7 @@ text-short : (asked : Asked) (xs : List ℕ) → length (listingText asked xs) �
 unfolding listingText
 text-short asked [] = lit≤ tt
 text-short asked (v ∷ xs) =
-    cond-by (λ (t : List ℕ). length t ≤ 9 * length (v ∷ xs) + 10) (knownVersion v) (λ e. omega (arith, lines-short asked xs)) (λ e. omega arith)
+    cond-by (λ (t : List ℕ). length t ≤ 9 * length (v ∷ xs) + 10) (knownVersion v) (λ e. omega (arith, lines-short (inVersion v asked) xs)) (λ e. omega arith)
 
 -- a listing over the limit has no length at all
 limited : (m l r : Bool) (t : List ℕ) → (l ≡ false → length t < 2 ^ 32) → lengthWith (answerOf (refusal 1 m ∷ refusal 2 l ∷ refusal 6 r ∷ [])) t < 2 ^ 32
@@ -43,5 +43,5 @@ limited false false false t h = h refl
 pub listing-fits : (asked : Asked) (xs buf : List ℕ) → listingOutcome asked xs buf .length < 2 ^ 32
 unfolding listingOutcome outcomeOf listingRefusals
 listing-fits asked xs buf =
-    limited (modeRefused asked) (ltb sizeLimit (length xs)) (roomRefused (listingText asked xs) buf) (listingText asked xs)
+    limited (modeRefused (asked .mode)) (ltb sizeLimit (length xs)) (roomRefused (listingText asked xs) buf) (listingText asked xs)
     (λ (e : ltb sizeLimit (length xs) ≡ false). omega (arith, ltb-false sizeLimit (length xs) e, text-short asked xs))

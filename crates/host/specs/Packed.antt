@@ -7,8 +7,8 @@ use Rattle.answers.specs.Outcomes.{Outcome}
 use Rattle.records.specs.declared.Asked.{Asked}
 
 -- what a C program asks for by plain numbers
-abbrev pub asked : ℕ → Asked
-asked mode = record { mode = mode }
+abbrev pub asked : (version mode : ℕ) → Asked
+asked version mode = record { mode = mode; version = version }
 
 abbrev pub packed : Outcome → ℕ
 packed o = o .answer * 2 ^ 32 + o .length

@@ -17,8 +17,8 @@ fn pack(answer: Answer) -> u64
 }
 
 #[no_mangle]
-pub extern "C" fn masm_print_record(body: &[u8], mode: u32, text: &mut [u8]) -> u64
-    ensures { λ r. ⌜ Returns (recordOutcome (asked mode) (now (body .entry)) (now (text .entry))) r (now (text .exit)) ⌝ }
+pub extern "C" fn masm_print_record(body: &[u8], version: u32, mode: u32, text: &mut [u8]) -> u64
+    ensures { λ r. ⌜ Returns (recordOutcome (asked version mode) (now (body .entry)) (now (text .entry))) r (now (text .exit)) ⌝ }
 {
     let name_letters = names::opcodes::letters();
     let name_starts = names::opcodes::starts();
@@ -36,7 +36,7 @@ pub extern "C" fn masm_print_record(body: &[u8], mode: u32, text: &mut [u8]) -> 
         &label_starts,
         &arms,
         body,
-        Asked { mode },
+        Asked { mode, version },
         text,
     );
     pack(answer)
@@ -44,7 +44,7 @@ pub extern "C" fn masm_print_record(body: &[u8], mode: u32, text: &mut [u8]) -> 
 
 #[no_mangle]
 pub extern "C" fn masm_print_listing(listing: &[u8], mode: u32, text: &mut [u8]) -> u64
-    ensures { λ r. ⌜ Returns (listingOutcome (asked mode) (now (listing .entry)) (now (text .entry))) r (now (text .exit)) ⌝ }
+    ensures { λ r. ⌜ Returns (listingOutcome (asked 1 mode) (now (listing .entry)) (now (text .entry))) r (now (text .exit)) ⌝ }
 {
     let name_letters = names::opcodes::letters();
     let name_starts = names::opcodes::starts();
@@ -62,7 +62,7 @@ pub extern "C" fn masm_print_listing(listing: &[u8], mode: u32, text: &mut [u8])
         &label_starts,
         &arms,
         listing,
-        Asked { mode },
+        Asked { mode, version: 1 },
         text,
     );
     pack(answer)

@@ -9,7 +9,7 @@ use Rattle.text.specs.Words.{bytes}
 use Rattle.operands.specs.declared.Instruction.{Instruction}
 use Rattle.operands.specs.declared.Item.{Item}
 use Rattle.operands.specs.declared.Shown.{Shown}
-use Rattle.operands.specs.declared.Shown.the-variants.{Nothing, Name, St, Number, Word, Dword, Bracket, Branch}
+use Rattle.operands.specs.declared.Shown.the-variants.{Nothing, Name, St, Number, Word, Dword, Bracket, Branch, Target}
 use Rattle.bodies.proofs.Picks.{both-left, both-right}
 use Rattle.names.specs.declared.Arm.{Arm}
 use Rattle.branches.specs.declared.Mode.{Mode}
@@ -30,6 +30,7 @@ shows-not-nothing (Word address) = refl
 shows-not-nothing (Dword address) = refl
 shows-not-nothing (Bracket address) = refl
 shows-not-nothing (Branch word minus size) = refl
+shows-not-nothing (Target word target) = refl
 
 -- an operand shows nothing
 abbrev Hidden : Item → Type 0

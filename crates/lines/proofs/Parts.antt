@@ -26,7 +26,7 @@ use Rattle.operands.specs.declared.Tail.{Tail}
 use Rattle.operands.specs.declared.Tail.the-variants as tail
 use Rattle.lines.specs.Fronts.{labelText, segmentText}
 use Rattle.lines.specs.Brackets.{baseText, scaleText, indexText, tailText, bracketText, maskText, maskedText}
-use Rattle.lines.specs.Items.{absoluteText, signText, wordText, branchText, shownText, broadcastText, itemText}
+use Rattle.lines.specs.Items.{absoluteText, signText, wordText, branchText, targetText, shownText, broadcastText, itemText}
 use Rattle.lines.specs.Text.{tailWord}
 
 pub scale-shown : {s : ℕ} → 1 < s → scaleText s ≡ bytes " * " ++ digits 1 s
@@ -161,6 +161,10 @@ branch-length w minus size =
     sign-length : (minus : Bool) → length (signText minus) ≡ 2
     sign-length true = refl
     sign-length false = refl
+
+pub target-length : (w : BranchWord) (target : ℕ) → length (targetText w target) ≡ length (wordText w) + length (absolute 8 target)
+unfolding targetText
+target-length w target = length-append (wordText w) (absolute 8 target)
 
 pub item-length :
     (i : Item) →

@@ -17,7 +17,7 @@ use Rattle.names.specs.Registers.{registerName}
 use Rattle.names.specs.declared.Arm.{Arm}
 use Rattle.names.proofs.ArmGroups.{not-one-of}
 use Rattle.operands.specs.Kinds.{isAbsent, isRegister, isMemory}
-use Rattle.operands.specs.Parts.{operandIn, shownOf, segmentOf, registerOf, immediateKind, immediateOf, maskOf, bare}
+use Rattle.operands.specs.Parts.{startingAt, operandIn, shownOf, segmentOf, registerOf, immediateKind, immediateOf, maskOf, bare}
 use Rattle.operands.specs.RegisterBytes.{st0}
 use Rattle.operands.specs.declared.Address.{Address}
 use Rattle.operands.specs.declared.BranchWord.{BranchWord}
@@ -29,13 +29,16 @@ use Rattle.operands.specs.declared.Operand.{Operand}
 use Rattle.operands.specs.declared.Operand.the-variants as operand
 use Rattle.operands.proofs.Shown.{the-type}
 use Rattle.operands.specs.declared.Shown.{Shown}
+use Rattle.operands.specs.declared.Shown.the-variants as shown
 use Rattle.operands.specs.declared.Shown.the-variants.{Name, St, Branch}
 use Rattle.bodies.specs.Body.{opcodeOf, flagsOf, lengthOf, countOf}
 use Rattle.bodies.specs.Decoding.{operandAt, instructionOf}
 use Rattle.bodies.proofs.Accepted.{absent-from-count}
 use Rattle.bodies.proofs.Counted.{operand-in}
+use Rattle.places.proofs.Starts.{operand-unstarted}
 use Rattle.branches.specs.Sums.{branchShown}
 use Rattle.branches.specs.declared.Mode.{Mode}
+use Rattle.branches.specs.declared.Mode.the-variants.{Crate, Straight, Target}
 use Rattle.places.specs.Labels.{labelNumber, labelsInOrder, labelAt}
 use Rattle.places.specs.Places.{segmentShown, valueShown, maskShown, operandShown, branchOf, itemAt, itemsAt}
 use Rattle.places.specs.declared.Mask.{Mask}
@@ -47,7 +50,7 @@ use Rattle.places.specs.declared.Segment.{Segment}
 use Rattle.places.specs.declared.Segment.the-variants.{Hidden, Shown as Own, UnlessDs}
 use Rattle.lines.specs.Fronts.{labelText, segmentText}
 use Rattle.lines.specs.Brackets.{maskText, maskedText}
-use Rattle.lines.specs.Items.{absoluteText, branchText, shownText, broadcastText, itemText}
+use Rattle.lines.specs.Items.{absoluteText, branchText, targetText, shownText, broadcastText, itemText}
 use Rattle.lines.specs.Head.{headOf}
 use Rattle.lines.specs.Text.{headText, shows, partedText, itemsText, tailWord, lineText, lineBy}
 use Rattle.lines.specs.Code.{itemsFrom}
@@ -167,14 +170,18 @@ module _ (mode : Mode) (arm : Arm) (i : Instruction) {p : Place} where
   unfolding itemAt
   place-branch e = rw e (text-bare (branchOf mode arm i))
 
+-- operand k of a record, as the code has it from the body
+operand-started : (start : ℕ) (body : List ℕ) → countOf body ≤ 4 → (k : ℕ) → operandAt body k ≡ operandIn (startingAt start (instructionOf body)) k
+operand-started start body few k = operand-in body few k ∙ sym (operand-unstarted start (instructionOf body) k)
+
 -- operand k at a place, as the code has it from the body
 pub place-operand :
-    (mode : Mode) (arm : Arm) (body : List ℕ) → countOf body ≤ 4 →
+    (mode : Mode) (arm : Arm) (start : ℕ) (body : List ℕ) → countOf body ≤ 4 →
     {p : Place} {k label : ℕ} {segment : Segment} {short : Bool} {mask : Mask} {b : Broadcast} → p ≡ place.Operand k label segment short mask b →
     {o : Operand} → o ≡ operandAt body k →
-    itemText (itemAt mode arm (instructionOf body) p) ≡ itemText (operandShown (labelAt label) segment short mask (registerOf (operandAt body 1)) b o)
+    itemText (itemAt mode arm (startingAt start (instructionOf body)) p) ≡ itemText (operandShown (labelAt label) segment short mask (registerOf (operandAt body 1)) b o)
 unfolding itemAt
-place-operand mode arm body few {k = k} e is = rw (e, is, operand-in body few k, operand-in body few 1)
+place-operand mode arm start body few {k = k} e is = rw (e, is, operand-started start body few k, operand-started start body few 1)
 
 -- an operand shows something exactly where it is there
 shows-operand : (short : Bool) (o : Operand) → shows (valueShown short o) ≡ not (isAbsent o)
@@ -202,20 +209,25 @@ module _ (mode : Mode) (arm : Arm) (i : Instruction) {p : Place} where
 
   pub shows-branch : p ≡ place.Branch → shows (itemAt mode arm i p .shown) ≡ true
   unfolding itemAt branchShown
-  shows-branch e = rw e
+  shows-branch e = rw e (shows-mode mode)
+    where
+      shows-mode : (m : Mode) → shows (branchOf m arm i) ≡ true
+      shows-mode Crate = refl
+      shows-mode Straight = refl
+      shows-mode Target = refl
 
 pub shows-stored :
-    (mode : Mode) (arm : Arm) (body : List ℕ) → countOf body ≤ 4 →
+    (mode : Mode) (arm : Arm) (start : ℕ) (body : List ℕ) → countOf body ≤ 4 →
     {p : Place} {k label : ℕ} {segment : Segment} {short : Bool} {mask : Mask} {b : Broadcast} → p ≡ place.Operand k label segment short mask b →
-    shows (itemAt mode arm (instructionOf body) p .shown) ≡ ltb k (countOf body)
+    shows (itemAt mode arm (startingAt start (instructionOf body)) p .shown) ≡ ltb k (countOf body)
 unfolding itemAt operandShown
-shows-stored mode arm body few {k = k} {short = short} e =
-    rw (e, ← operand-in body few k)
+shows-stored mode arm start body few {k = k} {short = short} e =
+    rw (e, ← operand-started start body few k)
     (shows-operand short (operandAt body k) ∙ (ap not (absent-from-count body k) ∙ Bool·not-not (ltb k (countOf body))))
 
 -- the branch as the code has it from the body: operand 0, its kind and its value, and the instruction's length
-module _ (mode : Mode) (arm : Arm) (body : List ℕ) {o : Operand} {kind value len : ℕ} {s : Shown} where
-  pub branch-is : o ≡ operandAt body 0 → kind ≡ immediateKind o → value ≡ immediateOf o → len ≡ lengthOf body → s ≡ branchShown mode arm kind value len → branchOf mode arm (instructionOf body) ≡ s
+module _ (mode : Mode) (arm : Arm) (start : ℕ) (body : List ℕ) {o : Operand} {kind value len : ℕ} {s : Shown} where
+  pub branch-is : o ≡ operandAt body 0 → kind ≡ immediateKind o → value ≡ immediateOf o → len ≡ lengthOf body → s ≡ branchShown mode arm kind value len start → branchOf mode arm (startingAt start (instructionOf body)) ≡ s
   unfolding instructionOf
   branch-is op k v l e = rw (e, k, v, l, op)
 
@@ -225,11 +237,20 @@ otherTags = 0 ∷ 1 ∷ 2 ∷ 3 ∷ 4 ∷ 5 ∷ 6 ∷ []
 
 pub branch-tag : (mode : Mode) (arm : Arm) (i : Instruction) {s : Shown} → branchOf mode arm i ≡ s → OneOf otherTags (tagOf the-type s) → ⊥
 unfolding branchShown
-branch-tag mode arm i e o = not-one-of 7 otherTags tt (subst (λ (x : Shown). OneOf otherTags (tagOf the-type x)) (sym e) o)
+branch-tag mode arm i e o = by mode (subst (λ (x : Shown). OneOf otherTags (tagOf the-type x)) (sym e) o)
+  where
+    by : (m : Mode) → OneOf otherTags (tagOf the-type (branchOf m arm i)) → ⊥
+    by Crate o = not-one-of 7 otherTags tt o
+    by Straight o = not-one-of 7 otherTags tt o
+    by Target o = not-one-of 8 otherTags tt o
 
 pub text-branch : {s : Shown} {word : BranchWord} {minus : Bool} {size : ℕ} → s ≡ Branch word minus size → shownText s ≡ branchText word minus size
 unfolding shownText
 text-branch e = rw e
+
+pub text-target : {s : Shown} {word : BranchWord} {target : ℕ} → s ≡ shown.Target word target → shownText s ≡ targetText word target
+unfolding shownText
+text-target e = rw e
 
 -- a register, shortened or not
 pub register-st : (short : Bool) (reg : ℕ) → (short && eqb reg st0) ≡ true → registerText short reg ≡ bytes "st"
@@ -281,8 +302,8 @@ module _ (mode : Mode) (arm : Arm) (i : Instruction) (plan : Plan) where
 
 -- the line of a body: its head, its places after it, and the tail
 pub line-by :
-    (mode : Mode) (arm : Arm) (plan : Plan) (body : List ℕ) {opcode flags : ℕ} →
+    (mode : Mode) (arm : Arm) (plan : Plan) (start : ℕ) (body : List ℕ) {opcode flags : ℕ} →
     opcode ≡ opcodeOf body → flags ≡ flagsOf body →
-    lineText (lineBy mode arm plan (instructionOf body)) ≡ headText (headOf arm opcode flags) ++ (itemsText (itemsAt mode arm (instructionOf body) plan) ++ tailWord (plan .tail))
+    lineText (lineBy mode arm plan (startingAt start (instructionOf body))) ≡ headText (headOf arm opcode flags) ++ (itemsText (itemsAt mode arm (startingAt start (instructionOf body)) plan) ++ tailWord (plan .tail))
 unfolding lineText instructionOf
-line-by mode arm plan body o f = rw (o, f)
+line-by mode arm plan start body o f = rw (o, f)

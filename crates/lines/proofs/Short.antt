@@ -26,20 +26,20 @@ use Rattle.operands.specs.declared.Broadcast.{Broadcast}
 use Rattle.operands.specs.declared.Broadcast.the-variants as broadcast
 use Rattle.operands.specs.declared.Item.{Item}
 use Rattle.operands.specs.declared.Shown.{Shown}
-use Rattle.operands.specs.declared.Shown.the-variants.{Nothing, Name, St, Number, Word, Dword, Bracket, Branch}
+use Rattle.operands.specs.declared.Shown.the-variants.{Nothing, Name, St, Number, Word, Dword, Bracket, Branch, Target}
 use Rattle.operands.specs.declared.Label.{Label}
 use Rattle.operands.specs.declared.Tail.{Tail}
 use Rattle.operands.specs.declared.Tail.the-variants as tail
 use Rattle.places.specs.Labels.{labelNumber}
 use Rattle.lines.specs.Fronts.{labelText, segmentText}
 use Rattle.lines.specs.Brackets.{baseText, scaleText, indexedText, indexText, tailText, maskText}
-use Rattle.lines.specs.Items.{wordText, branchText, shownText, broadcastText, itemText}
+use Rattle.lines.specs.Items.{wordText, branchText, targetText, shownText, broadcastText, itemText}
 use Rattle.lines.specs.declared.Head.{Head}
 use Rattle.lines.specs.declared.Line.{Line}
 use Rattle.lines.specs.declared.Name.{Name as Mnemonic}
 use Rattle.lines.specs.declared.Name.the-variants.{Opcode, Feni, Fdisi, Fsetpm}
 use Rattle.lines.specs.Text.{prefixesText, nameText, headText, shows, partedText, tailWord, lineText, longestLine}
-use Rattle.lines.proofs.Parts.{bracket-length, absolute-length, branch-length, item-length}
+use Rattle.lines.proofs.Parts.{bracket-length, absolute-length, branch-length, target-length, item-length}
 use Rattle.lines.proofs.Lengths.{prefixes-length, head-length, parted-length, items-length, line-length}
 
 -- a text that stands only where it is called for is no longer than the text
@@ -109,6 +109,9 @@ word-most word.Near = lit≤ tt
 pub branch-short : (w : BranchWord) (minus : Bool) (size : ℕ) → length (branchText w minus size) ≤ 21
 branch-short w minus size = omega (arith, branch-length w minus size, word-most w, numeral-short size)
 
+pub target-short : (w : BranchWord) (target : ℕ) → length (targetText w target) ≤ 19
+target-short w target = omega (arith, target-length w target, word-most w, absolute-short 8 target)
+
 shown-short : (s : Shown) → length (shownText s) ≤ 32
 unfolding shownText
 shown-short Nothing = lit≤ tt
@@ -120,6 +123,7 @@ shown-short (Dword v) = omega (arith, absolute-length 8 v, absolute-short 8 v)
 shown-short (Bracket a) =
     omega (arith, bracket-length a, base-short (a .based) (a .base), index-short a, tail-short (a .displaced) (a .disp))
 shown-short (Branch w minus size) = omega (arith, branch-short w minus size)
+shown-short (Target w target) = omega (arith, target-short w target)
 
 -- `{k1}`
 mask-short : (m : ℕ) → length (maskText m) ≤ 7

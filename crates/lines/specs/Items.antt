@@ -13,7 +13,7 @@ use Rattle.operands.specs.declared.Broadcast.{Broadcast}
 use Rattle.operands.specs.declared.Broadcast.the-variants as broadcast
 use Rattle.operands.specs.declared.Item.{Item}
 use Rattle.operands.specs.declared.Shown.{Shown}
-use Rattle.operands.specs.declared.Shown.the-variants.{Nothing, Name, St, Number, Word, Dword, Bracket, Branch}
+use Rattle.operands.specs.declared.Shown.the-variants.{Nothing, Name, St, Number, Word, Dword, Bracket, Branch, Target}
 use Rattle.lines.specs.Fronts.{labelText, segmentText}
 use Rattle.lines.specs.Brackets.{bracketText, maskText}
 
@@ -25,7 +25,7 @@ absoluteText k address = bytes "[" ++ (absolute k address ++ bytes "]")
 abbrev pub signText : Bool → List ℕ
 signText minus = cond minus (bytes "$-") (bytes "$+")
 
--- the word before `$`
+-- the word before `$`, or before the target
 abbrev pub wordText : BranchWord → List ℕ
 wordText word.None = []
 wordText word.Short = bytes "short "
@@ -34,6 +34,10 @@ wordText word.Near = bytes "near ptr "
 -- the word, and "`$`, sign and numeral of distance plus length"
 unfoldable pub branchText : BranchWord → Bool → ℕ → List ℕ
 branchText word minus size = wordText word ++ (signText minus ++ numeral size)
+
+-- document 02, W-205: the word, and "the branch target as eight digits and h with the absolute rule's leading 0"
+unfoldable pub targetText : BranchWord → ℕ → List ℕ
+targetText word target = wordText word ++ absolute 8 target
 
 unfoldable pub shownText : Shown → List ℕ
 shownText Nothing = []
@@ -44,6 +48,7 @@ shownText (Word address) = absoluteText 4 address
 shownText (Dword address) = absoluteText 8 address
 shownText (Bracket address) = bracketText address
 shownText (Branch word minus size) = branchText word minus size
+shownText (Target word target) = targetText word target
 
 -- document 02's `{1toN}`, as `{1to16}`; two digits are enough, since "a printed `{1toN}` with N above 16" is refused
 unfoldable pub broadcastText : Broadcast → List ℕ

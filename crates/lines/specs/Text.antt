@@ -7,7 +7,7 @@ use Rattle.text.specs.Choice.{when}
 use Rattle.text.specs.Words.{bytes}
 use Rattle.names.specs.Opcodes.{mnemonic}
 use Rattle.operands.specs.declared.Shown.{Shown}
-use Rattle.operands.specs.declared.Shown.the-variants.{Nothing, Name, St, Number, Word, Dword, Bracket, Branch}
+use Rattle.operands.specs.declared.Shown.the-variants.{Nothing, Name, St, Number, Word, Dword, Bracket, Branch, Target}
 use Rattle.operands.specs.declared.Item.{Item}
 use Rattle.operands.specs.declared.Items.{Items}
 use Rattle.operands.specs.declared.Tail.{Tail}
@@ -53,6 +53,7 @@ shows (Word address) = true
 shows (Dword address) = true
 shows (Bracket address) = true
 shows (Branch word minus size) = true
+shows (Target word target) = true
 
 -- an operand that shows something, after what parts it from the text before
 unfoldable pub partedText : List ℕ → Item → List ℕ

@@ -6,18 +6,19 @@ ghost use Rattle.text.specs.Code.{Room, Put};
 ghost use Rattle.names.specs.Registers.{RegisterTable};
 ghost use Rattle.names.specs.Labels.{LabelTable};
 ghost use Rattle.bodies.specs.Body.{countOf};
-ghost use Rattle.bodies.specs.Code.{Whole};
-ghost use Rattle.bodies.specs.Decoding.{instructionOf, operandAt};
+ghost use Rattle.bodies.specs.Code.{fieldsBy, Whole, instructionBy};
+ghost use Rattle.bodies.specs.Decoding.{operandAt};
 ghost use Rattle.places.specs.Labels.{labelAt};
 ghost use Rattle.places.specs.Order.{fromTheLeft};
 ghost use Rattle.places.specs.Places.{operandShown, branchOf, itemAt, itemsAt};
 ghost use Rattle.lines.specs.Fronts.{segmentText};
 ghost use Rattle.operands.specs.Parts.{registerOf};
-ghost use Rattle.lines.specs.Items.{absoluteText, signText, wordText, branchText, shownText, itemText};
+ghost use Rattle.lines.specs.Items.{absoluteText, signText, wordText, branchText, targetText, shownText, itemText};
 ghost use Rattle.lines.specs.Text.{shows, itemsText};
 ghost use Rattle.lines.specs.Code.{shownSegment, shownMask, frontText, registerText, placeAt, separatorAt};
 use crate::bracket;
 use crate::broadcast;
+use bodies::Front;
 use bodies::fields;
 use bodies::kinds::immediate_at;
 use bodies::kinds::immediate_kind_at;
@@ -85,23 +86,33 @@ fn put_sum(buf: &mut [u8], at: usize, word: BranchWord, minus: bool, size: u32) 
     numerals::numeral::put_numeral(buf, next, size)
 }
 
+// The target stands without a bracket.
+fn put_target(buf: &mut [u8], at: usize, word: BranchWord, target: u32) -> usize
+    requires { ⌜ Room (now buf) at (targetText word target) ⌝ }
+    ensures { λ r. ⌜ Put (now (buf .entry)) at (targetText word target) r (now (buf .exit)) ⌝ }
+{
+    let next = put_branch_word(buf, at, word);
+    numerals::absolute::put_absolute32(buf, next, target)
+}
+
 // The branch of operand 0, with the word of this arm.
-fn put_branch(buf: &mut [u8], at: usize, body: &[u8], mode: Mode, arm: Arm) -> usize
-    requires { ⌜ Whole (now body) ⌝ }
-    requires { ⌜ Room (now buf) at (shownText (branchOf mode arm (instructionOf (now body)))) ⌝ }
-    ensures { λ r. ⌜ Put (now (buf .entry)) at (shownText (branchOf mode arm (instructionOf (now (body .entry))))) r (now (buf .exit)) ⌝ }
+fn put_branch(buf: &mut [u8], at: usize, front: Front, rest: &[u8], mode: Mode, arm: Arm) -> usize
+    requires { ⌜ Whole (fieldsBy front (now rest)) ⌝ }
+    requires { ⌜ Room (now buf) at (shownText (branchOf mode arm (instructionBy front (now rest)))) ⌝ }
+    ensures { λ r. ⌜ Put (now (buf .entry)) at (shownText (branchOf mode arm (instructionBy front (now (rest .entry))))) r (now (buf .exit)) ⌝ }
 {
     let shown = branches::branch_shown(
         mode,
         arm,
-        immediate_kind_at(body, 0),
-        immediate_at(body, 0),
-        fields::length(body),
+        immediate_kind_at(front, rest, 0),
+        immediate_at(front, rest, 0),
+        front.length,
+        front.start,
     );
-    if let Shown::Branch { word, minus, size } = shown {
-        put_sum(buf, at, word, minus, size)
-    } else {
-        at
+    match shown {
+        Shown::Branch { word, minus, size } => put_sum(buf, at, word, minus, size),
+        Shown::Target { word, target } => put_target(buf, at, word, target),
+        _ => at,
     }
 }
 
@@ -117,13 +128,13 @@ fn shown_segment(segment: Segment, own: u8) -> u8
 }
 
 // The mask that a place shows: the one that its operand has, or operand 1's register.
-fn shown_mask(body: &[u8], mask: Mask, own: u8) -> u8
-    requires { ⌜ Whole (now body) ⌝ }
-    ensures { λ r. ⌜ r ≡ shownMask mask own (registerOf (operandAt (now (body .entry)) 1)) ⌝ }
+fn shown_mask(front: Front, rest: &[u8], mask: Mask, own: u8) -> u8
+    requires { ⌜ Whole (fieldsBy front (now rest)) ⌝ }
+    ensures { λ r. ⌜ r ≡ shownMask mask own (registerOf (operandAt (fieldsBy front (now (rest .entry))) 1)) ⌝ }
 {
     match mask {
         Mask::Itself => own,
-        Mask::Second => register_at(body, 1),
+        Mask::Second => register_at(front, rest, 1),
     }
 }
 
@@ -187,14 +198,15 @@ fn put_operand(
     short: bool,
     mask: Mask,
     broadcast: Broadcast,
-    body: &[u8],
+    front: Front,
+    rest: &[u8],
     o: Operand,
 ) -> usize
     requires { ⌜ RegisterTable (now «register_letters») (now «register_starts») ⌝ }
     requires { ⌜ LabelTable (now «label_letters») (now «label_starts») ⌝ }
-    requires { ⌜ Whole (now body) ⌝ }
-    requires { ⌜ Room (now buf) at (itemText (operandShown (labelAt label) segment short mask (registerOf (operandAt (now body) 1)) broadcast o)) ⌝ }
-    ensures { λ r. ⌜ Put (now (buf .entry)) at (itemText (operandShown (labelAt label) segment short mask (registerOf (operandAt (now (body .entry)) 1)) broadcast o)) r (now (buf .exit)) ⌝ }
+    requires { ⌜ Whole (fieldsBy front (now rest)) ⌝ }
+    requires { ⌜ Room (now buf) at (itemText (operandShown (labelAt label) segment short mask (registerOf (operandAt (fieldsBy front (now rest)) 1)) broadcast o)) ⌝ }
+    ensures { λ r. ⌜ Put (now (buf .entry)) at (itemText (operandShown (labelAt label) segment short mask (registerOf (operandAt (fieldsBy front (now (rest .entry))) 1)) broadcast o)) r (now (buf .exit)) ⌝ }
 {
     match o {
         Operand::Absent => at,
@@ -225,7 +237,7 @@ fn put_operand(
                 next,
                 register_letters,
                 register_starts,
-                shown_mask(body, mask, 0),
+                shown_mask(front, rest, mask, 0),
             );
             broadcast::put_broadcast(buf, next, broadcast)
         }
@@ -247,7 +259,7 @@ fn put_operand(
                 next,
                 register_letters,
                 register_starts,
-                shown_mask(body, mask, 0),
+                shown_mask(front, rest, mask, 0),
             );
             broadcast::put_broadcast(buf, next, broadcast)
         }
@@ -270,7 +282,7 @@ fn put_operand(
                 register_letters,
                 register_starts,
                 address,
-                shown_mask(body, mask, own_mask),
+                shown_mask(front, rest, mask, own_mask),
             );
             broadcast::put_broadcast(buf, next, broadcast)
         }
@@ -285,17 +297,18 @@ fn put_place(
     register_starts: &registers::Starts,
     label_letters: &labels::Letters,
     label_starts: &labels::Starts,
-    body: &[u8],
+    front: Front,
+    rest: &[u8],
     mode: Mode,
     arm: Arm,
     place: Place,
 ) -> usize
     requires { ⌜ RegisterTable (now «register_letters») (now «register_starts») ⌝ }
     requires { ⌜ LabelTable (now «label_letters») (now «label_starts») ⌝ }
-    requires { ⌜ Whole (now body) ⌝ }
-    requires { ⌜ countOf (now body) ≤ 4 ⌝ }
-    requires { ⌜ Room (now buf) at (itemText (itemAt mode arm (instructionOf (now body)) place)) ⌝ }
-    ensures { λ r. ⌜ Put (now (buf .entry)) at (itemText (itemAt mode arm (instructionOf (now (body .entry))) place)) r (now (buf .exit)) ⌝ }
+    requires { ⌜ Whole (fieldsBy front (now rest)) ⌝ }
+    requires { ⌜ countOf (fieldsBy front (now rest)) ≤ 4 ⌝ }
+    requires { ⌜ Room (now buf) at (itemText (itemAt mode arm (instructionBy front (now rest)) place)) ⌝ }
+    ensures { λ r. ⌜ Put (now (buf .entry)) at (itemText (itemAt mode arm (instructionBy front (now (rest .entry))) place)) r (now (buf .exit)) ⌝ }
 {
     match place {
         Place::Nothing => at,
@@ -306,7 +319,7 @@ fn put_place(
             register_starts,
             reg,
         ),
-        Place::Branch => put_branch(buf, at, body, mode, arm),
+        Place::Branch => put_branch(buf, at, front, rest, mode, arm),
         Place::Operand {
             k,
             label,
@@ -326,17 +339,18 @@ fn put_place(
             short,
             mask,
             broadcast,
-            body,
-            operand_at(body, k),
+            front,
+            rest,
+            operand_at(front, rest, k),
         ),
     }
 }
 
 // Whether a place shows something.
-fn shows_something(body: &[u8], place: Place) -> bool
-    requires { ⌜ Whole (now body) ⌝ }
-    requires { ⌜ countOf (now body) ≤ 4 ⌝ }
-    ensures { λ r. ⌜ ((mode : Mode) (arm : Arm) → r ≡ shows (itemAt mode arm (instructionOf (now (body .entry))) place .shown)) ⌝ }
+fn shows_something(front: Front, rest: &[u8], place: Place) -> bool
+    requires { ⌜ Whole (fieldsBy front (now rest)) ⌝ }
+    requires { ⌜ countOf (fieldsBy front (now rest)) ≤ 4 ⌝ }
+    ensures { λ r. ⌜ ((mode : Mode) (arm : Arm) → r ≡ shows (itemAt mode arm (instructionBy front (now (rest .entry))) place .shown)) ⌝ }
 {
     match place {
         Place::Nothing => false,
@@ -349,7 +363,7 @@ fn shows_something(body: &[u8], place: Place) -> bool
             short: _,
             mask: _,
             broadcast: _,
-        } => k < fields::count(body),
+        } => k < fields::count(front, rest),
     }
 }
 
@@ -389,24 +403,25 @@ pub fn put_places(
     register_starts: &registers::Starts,
     label_letters: &labels::Letters,
     label_starts: &labels::Starts,
-    body: &[u8],
+    front: Front,
+    rest: &[u8],
     mode: Mode,
     arm: Arm,
     plan: Plan,
 ) -> usize
     requires { ⌜ RegisterTable (now «register_letters») (now «register_starts») ⌝ }
     requires { ⌜ LabelTable (now «label_letters») (now «label_starts») ⌝ }
-    requires { ⌜ Whole (now body) ⌝ }
-    requires { ⌜ countOf (now body) ≤ 4 ⌝ }
-    requires { ⌜ fromTheLeft (itemsAt mode arm (instructionOf (now body)) plan) ≡ true ⌝ }
-    requires { ⌜ Room (now buf) at (itemsText (itemsAt mode arm (instructionOf (now body)) plan)) ⌝ }
-    ensures { λ r. ⌜ Put (now (buf .entry)) at (itemsText (itemsAt mode arm (instructionOf (now (body .entry))) plan)) r (now (buf .exit)) ⌝ }
+    requires { ⌜ Whole (fieldsBy front (now rest)) ⌝ }
+    requires { ⌜ countOf (fieldsBy front (now rest)) ≤ 4 ⌝ }
+    requires { ⌜ fromTheLeft (itemsAt mode arm (instructionBy front (now rest)) plan) ≡ true ⌝ }
+    requires { ⌜ Room (now buf) at (itemsText (itemsAt mode arm (instructionBy front (now rest)) plan)) ⌝ }
+    ensures { λ r. ⌜ Put (now (buf .entry)) at (itemsText (itemsAt mode arm (instructionBy front (now (rest .entry))) plan)) r (now (buf .exit)) ⌝ }
 {
     let mut k = 0;
     let mut next = at;
     while k < 4 {
         let place = place_at(plan, k);
-        if !shows_something(body, place) {
+        if !shows_something(front, rest, place) {
             return next;
         }
         next = put_separator(buf, next, k);
@@ -417,7 +432,8 @@ pub fn put_places(
             register_starts,
             label_letters,
             label_starts,
-            body,
+            front,
+            rest,
             mode,
             arm,
             place,

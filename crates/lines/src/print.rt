@@ -7,13 +7,13 @@ ghost use Rattle.names.specs.Registers.{RegisterTable};
 ghost use Rattle.names.specs.Labels.{LabelTable};
 ghost use Prim.Native.Nat.{_≤_};
 ghost use Rattle.bodies.specs.Body.{countOf};
-ghost use Rattle.bodies.specs.Code.{Whole};
-ghost use Rattle.bodies.specs.Decoding.{instructionOf};
+ghost use Rattle.bodies.specs.Code.{fieldsBy, Whole, instructionBy};
 ghost use Rattle.places.specs.Order.{fromTheLeft};
 ghost use Rattle.places.specs.Places.{itemsAt};
 ghost use Rattle.lines.specs.Text.{tailWord, lineBy, lineText};
 use crate::heads;
 use crate::place;
+use bodies::Front;
 use bodies::fields;
 use branches::Mode;
 use names::Arm;
@@ -47,7 +47,8 @@ pub fn put_line(
     register_starts: &registers::Starts,
     label_letters: &labels::Letters,
     label_starts: &labels::Starts,
-    body: &[u8],
+    front: Front,
+    rest: &[u8],
     mode: Mode,
     arm: Arm,
     plan: Plan,
@@ -55,14 +56,14 @@ pub fn put_line(
     requires { ⌜ MnemonicTable (now «name_letters») (now «name_starts») ⌝ }
     requires { ⌜ RegisterTable (now «register_letters») (now «register_starts») ⌝ }
     requires { ⌜ LabelTable (now «label_letters») (now «label_starts») ⌝ }
-    requires { ⌜ Whole (now body) ⌝ }
-    requires { ⌜ countOf (now body) ≤ 4 ⌝ }
-    requires { ⌜ fromTheLeft (itemsAt mode arm (instructionOf (now body)) plan) ≡ true ⌝ }
-    requires { ⌜ Room (now buf) at (lineText (lineBy mode arm plan (instructionOf (now body)))) ⌝ }
-    ensures { λ r. ⌜ Put (now (buf .entry)) at (lineText (lineBy mode arm plan (instructionOf (now (body .entry))))) r (now (buf .exit)) ⌝ }
+    requires { ⌜ Whole (fieldsBy front (now rest)) ⌝ }
+    requires { ⌜ countOf (fieldsBy front (now rest)) ≤ 4 ⌝ }
+    requires { ⌜ fromTheLeft (itemsAt mode arm (instructionBy front (now rest)) plan) ≡ true ⌝ }
+    requires { ⌜ Room (now buf) at (lineText (lineBy mode arm plan (instructionBy front (now rest)))) ⌝ }
+    ensures { λ r. ⌜ Put (now (buf .entry)) at (lineText (lineBy mode arm plan (instructionBy front (now (rest .entry))))) r (now (buf .exit)) ⌝ }
 {
-    let opcode = fields::opcode(body);
-    let flags = fields::flags(body);
+    let opcode = fields::opcode(front);
+    let flags = front.flags;
     let next = heads::put_head(buf, at, name_letters, name_starts, arm, opcode, flags);
     let next = place::put_places(
         buf,
@@ -71,7 +72,8 @@ pub fn put_line(
         register_starts,
         label_letters,
         label_starts,
-        body,
+        front,
+        rest,
         mode,
         arm,
         plan,

@@ -8,9 +8,10 @@ use Rattle.text.specs.Words.{bytes, empty}
 use Rattle.answers.specs.Lines.{newline}
 use Rattle.frames.specs.Frames.{isWhole, bodyOf, frameSize, knownVersion}
 use Rattle.records.specs.declared.Asked.{Asked}
+use Rattle.records.specs.Records.{inVersion}
 use Rattle.records.specs.Lines.{recordLine}
 
--- "Missing bytes .. end it with `; cut`"; "A version byte other than 1 gives the single line `; version`"
+-- "Missing bytes .. end it with `; cut`"; "A version byte other than 1 gives the single line `; version`", and since document 02 other than 1 and 2
 abbrev pub cutLine : List ℕ
 cutLine = bytes "; cut" ++ newline
 
@@ -30,7 +31,7 @@ linesWithin (suc k) asked xs = cond (empty xs) [] (frontLine asked xs ++ linesWi
 unfoldable pub linesOf : Asked → List ℕ → List ℕ
 linesOf asked xs = linesWithin (length xs) asked xs
 
--- the lines of a listing: "one version byte, 1, then records"; "an empty listing too" is cut
+-- the lines of a listing: "one version byte, 1, then records", or 2; its records are of that version; "an empty listing too" is cut
 unfoldable pub listingText : Asked → List ℕ → List ℕ
 listingText asked [] = cutLine
-listingText asked (version ∷ xs) = cond (knownVersion version) (linesOf asked xs) versionLine
+listingText asked (version ∷ xs) = cond (knownVersion version) (linesOf (inVersion version asked) xs) versionLine

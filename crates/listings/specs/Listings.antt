@@ -15,10 +15,10 @@ use Rattle.listings.specs.Lines.{listingText}
 abbrev pub sizeLimit : ℕ
 sizeLimit = 16_777_216
 
--- of a listing's refusals only mode, length and room can apply: a record's own stand in its line
+-- of a listing's refusals only mode, length and room can apply: a record's own stand in its line, also that of a mode for its version
 unfoldable pub listingRefusals : Asked → List ℕ → List Refusal
 listingRefusals asked listing =
-    refusal mode (modeRefused asked) ∷ refusal length (ltb sizeLimit (list.length listing)) ∷ []
+    refusal mode (modeRefused (asked .mode)) ∷ refusal length (ltb sizeLimit (list.length listing)) ∷ []
 
 unfoldable pub listingOutcome : Asked → (listing buf : List ℕ) → Outcome
 listingOutcome asked listing buf =

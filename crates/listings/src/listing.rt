@@ -23,6 +23,7 @@ use names::labels;
 use names::opcodes;
 use names::registers;
 use records::Asked;
+use records::judge::in_version;
 
 // "listing over 16,777,216 bytes"
 const SIZE_LIMIT: usize = 16_777_216;
@@ -30,7 +31,7 @@ const SIZE_LIMIT: usize = 16_777_216;
 // No listing has more bytes of lines than this many times its own: see `Rooms`.
 const ROOM_FACTOR: usize = 9;
 
-// The lines of a listing of the known version. They are measured first only where they might not fit.
+// The lines of a listing, of the version that is asked. They are measured first only where they might not fit.
 fn print_lines(
     name_letters: &opcodes::Letters,
     name_starts: &opcodes::Starts,
@@ -111,7 +112,7 @@ pub fn print_listing(
     requires { ⌜ ArmTable (now arms) ⌝ }
     ensures { λ r. ⌜ Gives (listingOutcome asked (now (listing .entry)) (now (text .entry))) r (now (text .exit)) ⌝ }
 {
-    if 1 < asked.mode {
+    if 2 < asked.mode {
         return Answer {
             number: MODE,
             length: 0,
@@ -126,7 +127,8 @@ pub fn print_listing(
     if listing.len() == 0 {
         return answers::print_text(b"; cut\n", text);
     }
-    if frames::known_version(listing[0]) {
+    let version = frames::numbers::byte_at(listing, 0);
+    if frames::known_version(version) {
         return print_lines(
             name_letters,
             name_starts,
@@ -136,7 +138,7 @@ pub fn print_listing(
             label_starts,
             arms,
             listing,
-            asked,
+            in_version(version, asked),
             text,
         );
     }

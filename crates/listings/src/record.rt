@@ -22,6 +22,7 @@ use names::labels;
 use names::opcodes;
 use names::registers;
 use records::Asked;
+use records::judge::asked_refused;
 
 // A record that is printed aside first: answer 6's length is what that took.
 fn print_aside(
@@ -69,11 +70,11 @@ fn print_aside(
     }
 }
 
-// No bytes are no record's, in every mode that there is.
+// No bytes are no record's, in every mode and version that there is.
 fn of_no_bytes(asked: Asked) -> u8
     ensures { λ r. ⌜ r ≡ answerOf (refusals asked []) ⌝ }
 {
-    if 1 < asked.mode { MODE } else { LENGTH }
+    if asked_refused(asked) { MODE } else { LENGTH }
 }
 
 // In a buffer for the longest line a record is printed at once.

@@ -16,7 +16,7 @@ use Rattle.answers.specs.Refusals.{answerOf}
 use Rattle.frames.specs.Frames.{bodyLength, bodyOf, knownVersion}
 use Rattle.bodies.specs.WellFormed.{Bytes}
 use Rattle.records.specs.declared.Asked.{Asked}
-use Rattle.records.specs.Records.{refusals}
+use Rattle.records.specs.Records.{inVersion, refusals}
 use Rattle.streams.specs.Pass.{lastLine}
 use Rattle.streams.specs.declared.Next.{Next}
 use Rattle.streams.specs.declared.Next.the-variants.{Full, Read, Whole, Cut, Unknown}
@@ -82,28 +82,28 @@ module _ {asked : Asked} where
         unused = subst (Unused (w .now)) same (w .unused);
       }
 
-  cut-way : (number offset : ℕ) (held : List ℕ) → Bytes held → length held < 2 + bodyLength held → Way asked (Frames number offset) held
-  cut-way number offset held small h =
-      way-none (Frames number offset) held (part-cut held h, omega (arith, h, length-small held small))
+  cut-way : (number offset version : ℕ) (held : List ℕ) → Bytes held → length held < 2 + bodyLength held → Way asked (Frames number offset version) held
+  cut-way number offset version held small h =
+      way-none (Frames number offset version) held (part-cut held h, omega (arith, h, length-small held small))
 
-  frames-way : (k number offset : ℕ) (held : List ℕ) → length held ≤ k → Bytes held → Way asked (Frames number offset) held
-  frames-way zero number offset held h small = cut-way number offset held small (omega (arith, h))
-  frames-way (suc k) number offset held h small =
+  frames-way : (k number offset version : ℕ) (held : List ℕ) → length held ≤ k → Bytes held → Way asked (Frames number offset version) held
+  frames-way zero number offset version held h small = cut-way number offset version held small (omega (arith, h))
+  frames-way (suc k) number offset version held h small =
       let size = 2 + bodyLength held in
-      cond-by (λ (b : Bool). Way asked (Frames number offset) held) (ltb (length held) size) {x = true} {y = false}
-      (λ e. cut-way number offset held small (ltb-true (length held) size e))
+      cond-by (λ (b : Bool). Way asked (Frames number offset version) held) (ltb (length held) size) {x = true} {y = false}
+      (λ e. cut-way number offset version held small (ltb-true (length held) size e))
       (λ e.
       let whole : size ≤ length held = ltb-false (length held) size e in
-      way-then size (goes-whole asked number offset held whole) whole (omega arith) (refused-once (answerOf (refusals asked (bodyOf held))))
-      (frames-way k (wrapped (number + 1)) (wrapped (offset + size)) (drop size held) (omega (arith, h, whole, length-drop size held)) (bytes-drop held size small)))
+      way-then size (goes-whole asked number offset version held whole) whole (omega arith) (refused-once (answerOf (refusals (inVersion version asked) (bodyOf held))))
+      (frames-way k (wrapped (number + 1)) (wrapped (offset + size)) version (drop size held) (omega (arith, h, whole, length-drop size held)) (bytes-drop held size small)))
 
   way : (stage : Stage) (held : List ℕ) → Bytes held → Way asked stage held
   way Version [] small = way-none Version [] refl
   way Version (x ∷ xs) small =
       cond-by (λ (b : Bool). Way asked Version (x ∷ xs)) (knownVersion x) {x = true} {y = false}
-      (λ e. way-then 1 (goes-known asked (x ∷ xs) (λ z. absurd (omega (arith, z))) refl e) (omega arith) (lit≤ tt) (lit≤ tt) (frames-way (length xs) 0 1 xs (omega arith) (bytes-drop (x ∷ xs) 1 small)))
+      (λ e. way-then 1 (goes-known asked (x ∷ xs) (λ z. absurd (omega (arith, z))) refl e) (omega arith) (lit≤ tt) (lit≤ tt) (frames-way (length xs) 0 1 x xs (omega arith) (bytes-drop (x ∷ xs) 1 small)))
       (λ e. way-then 1 (goes-unknown asked (x ∷ xs) (λ z. absurd (omega (arith, z))) refl e) (omega arith) (lit≤ tt) (lit≤ tt) (way-none Done xs tt))
-  way (Frames number offset) held small = frames-way (length held) number offset held (omega arith) small
+  way (Frames number offset version) held small = frames-way (length held) number offset version held (omega arith) small
   way Done held small = way-none Done held tt
 
   -- the pass that goes it
@@ -146,12 +146,12 @@ apart Unknown = 4
 
 next-ended : (stage : Stage) (held : ℕ) → 2 ≤ apart (nextAt true stage held)
 next-ended Version held = lit≤ tt
-next-ended (Frames number offset) held = cond-by (λ (n : Next). 2 ≤ apart n) (ltb 0 held) (λ e. lit≤ tt) (λ e. lit≤ tt)
+next-ended (Frames number offset version) held = cond-by (λ (n : Next). 2 ≤ apart n) (ltb 0 held) (λ e. lit≤ tt) (λ e. lit≤ tt)
 next-ended Done held = lit≤ tt
 
 next-going : (stage : Stage) (held : ℕ) → (nextAt false stage held ≡ Read) ⊎ (2 ≤ apart (nextAt false stage held))
 next-going Version held = inl refl
-next-going (Frames number offset) held = inl refl
+next-going (Frames number offset version) held = inl refl
 next-going Done held = inr (lit≤ tt)
 
 pub record Ran (asked : Asked) (ended : Bool) (stage : Stage) (held : List ℕ) (reads : List (List ℕ)) : Type 0 where

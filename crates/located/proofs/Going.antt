@@ -1,19 +1,19 @@
 -- The way from one stage to another: none, one after the other, and that of each step.
 -- Assumes nothing.
 use mathlib.Core.Path.{_≡_, refl, sym, ap, ap₂, subst, _∙_}
-use mathlib.Core.Bool.{Bool, true, false}
+use mathlib.Core.Bool.{true, false}
 use mathlib.Core.List.{List, [], _∷_, _++_, append-assoc}
 use Prim.Native.Nat.{ℕ, _+_, _≤_}
 use native.Mathlib.Omega.{arith}
 use lib.Dec.{lit≤}
-use lib.ListN.{length, getD, take, drop, length-append}
+use lib.ListN.{length, take, drop, length-append}
 use Rattle.text.specs.Code.{Put}
 use Rattle.text.proofs.Putting.{put-none}
 use Rattle.answers.specs.Refusals.{answerOf}
-use Rattle.frames.specs.Numbers.{word}
+use Rattle.frames.specs.Numbers.{byte, word}
 use Rattle.frames.specs.Frames.{bodyLength, bodyOf, knownVersion}
 use Rattle.records.specs.declared.Asked.{Asked}
-use Rattle.records.specs.Records.{refusals}
+use Rattle.records.specs.Records.{inVersion, refusals}
 use Rattle.listings.specs.Lines.{versionLine}
 use Rattle.streams.specs.Stream.{refusedBy}
 use Rattle.streams.specs.Counts.{sumOf, listingSum, framesEnd, listingEnd}
@@ -47,23 +47,26 @@ goes-then {asked} {says = says} {says′ = says′} {now′ = now′} {left′ =
     }
 
 -- a version byte that is known, and one that is not
-module _ (asked : Asked) {known : Bool} where
-  pub goes-known : (xs : List ℕ) → (length xs ≡ 0 → ⊥) → known ≡ knownVersion (getD xs 0 0) → known ≡ true → Goes asked Version xs [] (Frames 0 1) (drop 1 xs) 0 0
+module _ (asked : Asked) {version : ℕ} where
+  pub goes-known : (xs : List ℕ) → (length xs ≡ 0 → ⊥) → version ≡ byte xs 0 → knownVersion version ≡ true → Goes asked Version xs [] (Frames 0 1 version) (drop 1 xs) 0 0
   unfolding saying counting endOf locatedText listingSum listingEnd
   goes-known [] some e k = absurd (some refl)
   goes-known (x ∷ xs) some e k =
-      let is : knownVersion x ≡ true = sym e ∙ k in
-      record { said = λ more. rw is; frames = λ more. rw is (omega arith); refusals = λ more. rw is (omega arith); end = λ more. rw is }
+      let is : knownVersion x ≡ true = rw (← e) k in
+      record { said = λ more. rw (is, e); frames = λ more. rw (is, e) (omega arith); refusals = λ more. rw (is, e) (omega arith); end = λ more. rw is }
 
-  pub goes-unknown : (xs : List ℕ) → (length xs ≡ 0 → ⊥) → known ≡ knownVersion (getD xs 0 0) → known ≡ false → Goes asked Version xs versionLine Done (drop 1 xs) 0 0
+  pub goes-unknown : (xs : List ℕ) → (length xs ≡ 0 → ⊥) → version ≡ byte xs 0 → knownVersion version ≡ false → Goes asked Version xs versionLine Done (drop 1 xs) 0 0
   unfolding saying counting endOf locatedText listingSum listingEnd
   goes-unknown [] some e k = absurd (some refl)
   goes-unknown (x ∷ xs) some e k =
-      let is : knownVersion x ≡ false = sym e ∙ k in
+      let is : knownVersion x ≡ false = rw (← e) k in
       record { said = λ more. rw is; frames = λ more. rw is; refusals = λ more. rw is; end = λ more. rw is }
 
 -- a whole frame
-module _ (asked : Asked) (number offset : ℕ) (xs : List ℕ) (h : 2 + bodyLength xs ≤ length xs) where
+module _ (asked : Asked) (number offset version : ℕ) (xs : List ℕ) (h : 2 + bodyLength xs ≤ length xs) where
+  abbrev told : Asked
+  told = inVersion version asked
+
   longer : (more : List ℕ) → 2 + bodyLength (xs ++ more) ≤ length (xs ++ more)
   longer more = omega (arith, h, length-append xs more, length-stays xs more (omega (arith, h)))
 
@@ -72,17 +75,17 @@ module _ (asked : Asked) (number offset : ℕ) (xs : List ℕ) (h : 2 + bodyLeng
       sum-whole f (xs ++ more) (longer more)
       ∙ ap₂ (λ (b zs : List ℕ). f b + sumOf f zs) (body-stays xs more h) (after-stays xs more h)
 
-  pub goes-whole : Goes asked (Frames number offset) xs (recordPart asked number offset (bodyOf xs)) (Frames (wrapped (number + 1)) (wrapped (offset + (2 + bodyLength xs)))) (drop (2 + bodyLength xs) xs) 1 (refusedBy (answerOf (refusals asked (bodyOf xs))))
+  pub goes-whole : Goes asked (Frames number offset version) xs (recordPart told number offset (bodyOf xs)) (Frames (wrapped (number + 1)) (wrapped (offset + (2 + bodyLength xs))) version) (drop (2 + bodyLength xs) xs) 1 (refusedBy (answerOf (refusals told (bodyOf xs))))
   unfolding saying counting endOf
   goes-whole =
       record {
         said =
             λ more.
-            parts-whole asked number offset (xs ++ more) (longer more)
-            ∙ ap (λ (n : ℕ). recordPart asked number offset (bodyOf (xs ++ more)) ++ partsOf asked (wrapped (number + 1)) (wrapped (offset + (2 + n))) (drop (2 + bodyLength (xs ++ more)) (xs ++ more))) (length-stays xs more (omega (arith, h)))
-            ∙ ap₂ (λ (b zs : List ℕ). recordPart asked number offset b ++ partsOf asked (wrapped (number + 1)) (wrapped (offset + (2 + bodyLength xs))) zs) (body-stays xs more h) (after-stays xs more h);
-        frames = λ more. summed one more;
-        refusals = λ more. summed (refusedOne asked) more;
+            parts-whole told number offset (xs ++ more) (longer more)
+            ∙ ap (λ (n : ℕ). recordPart told number offset (bodyOf (xs ++ more)) ++ partsOf told (wrapped (number + 1)) (wrapped (offset + (2 + n))) (drop (2 + bodyLength (xs ++ more)) (xs ++ more))) (length-stays xs more (omega (arith, h)))
+            ∙ ap₂ (λ (b zs : List ℕ). recordPart told number offset b ++ partsOf told (wrapped (number + 1)) (wrapped (offset + (2 + bodyLength xs))) zs) (body-stays xs more h) (after-stays xs more h);
+        frames = λ more. summed (one version) more;
+        refusals = λ more. summed (refusedOne asked version) more;
         end = λ more. end-whole (xs ++ more) (longer more) ∙ ap framesEnd (after-stays xs more h);
       }
 
@@ -115,10 +118,10 @@ steps-version {says = says} some goes short put =
     }
 
 -- a step over a whole frame, from what was put of its record
-pub steps-whole : (asked : Asked) (number offset : ℕ) (xs : List ℕ) (k : ℕ) {n a b answer refused : ℕ} {before : List ℕ} {out next : ℕ} {after : List ℕ} → n ≡ word xs 0 → 2 + n ≤ length xs → k ≡ n → a ≡ wrapped (number + 1) → b ≡ wrapped (offset + (2 + n)) → length (recordPart asked number offset (take k (drop 2 xs))) ≤ longestPart → Says asked (take k (drop 2 xs)) (recordPart asked number offset (take k (drop 2 xs))) before out answer next after → refused ≡ refusedBy answer → Steps asked (Frames number offset) xs before out (record { stage = Frames a b; used = 2 + n; out = next; records = 1; refused = refused }) after
-steps-whole asked number offset xs k {n} {a} {b} {answer} {refused} e h same one-more further short said by =
+pub steps-whole : (asked : Asked) (number offset version : ℕ) (xs : List ℕ) (k : ℕ) {told : Asked} {n a b answer refused : ℕ} {before : List ℕ} {out next : ℕ} {after : List ℕ} → told ≡ inVersion version asked → n ≡ word xs 0 → 2 + n ≤ length xs → k ≡ n → a ≡ wrapped (number + 1) → b ≡ wrapped (offset + (2 + n)) → length (recordPart told number offset (take k (drop 2 xs))) ≤ longestPart → Says told (take k (drop 2 xs)) (recordPart told number offset (take k (drop 2 xs))) before out answer next after → refused ≡ refusedBy answer → Steps asked (Frames number offset version) xs before out (record { stage = Frames a b version; used = 2 + n; out = next; records = 1; refused = refused }) after
+steps-whole asked number offset version xs k {told} {n} {a} {b} {answer} {refused} t e h same one-more further short said by =
     record {
-      says = recordPart asked number offset (take k (drop 2 xs));
+      says = recordPart told number offset (take k (drop 2 xs));
       put = said .put;
       goes = goes;
       uses = h;
@@ -128,8 +131,8 @@ steps-whole asked number offset xs k {n} {a} {b} {answer} {refused} e h same one
       none = λ z. absurd (omega (arith, z));
     }
   where
-    goes : Goes asked (Frames number offset) xs (recordPart asked number offset (take k (drop 2 xs))) (Frames a b) (drop (2 + n) xs) 1 refused
-    goes = rw (same, one-more, further, by, said .answer, same, e) (goes-whole asked number offset xs (rw (← e) h))
+    goes : Goes asked (Frames number offset version) xs (recordPart told number offset (take k (drop 2 xs))) (Frames a b version) (drop (2 + n) xs) 1 refused
+    goes = rw (same, one-more, further, by, said .answer, same, t, e) (goes-whole asked number offset version xs (rw (← e) h))
 
 -- a step under another name of its stage
 pub steps-at : {asked : Asked} {stage stage′ : Stage} {held before : List ℕ} {out : ℕ} {r : Step} {after : List ℕ} → stage ≡ stage′ → Steps asked stage held before out r after → Steps asked stage′ held before out r after

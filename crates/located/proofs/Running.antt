@@ -11,6 +11,7 @@ use lib.ListN.{length, take, drop, length-append, length-drop}
 use Rattle.text.specs.Choice.{when}
 use Rattle.text.specs.Words.{join}
 use Rattle.records.specs.declared.Asked.{Asked}
+use Rattle.records.specs.Records.{inVersion}
 use Rattle.listings.specs.Lines.{cutLine}
 use Rattle.streams.specs.Pass.{lastLine}
 use Rattle.streams.specs.Counts.{listingSum, recordCount, refusedCount, Ending, listingEnd}
@@ -50,12 +51,12 @@ rest-here : (asked : Asked) (stage : Stage) (held : List ℕ) → Unused stage h
 unfolding saying counting endOf lastLine locatedText listingSum listingEnd
 rest-here asked Version [] unused = record { text = refl; frames = refl; refusals = refl; next = refl; place = λ cut. refl }
 rest-here asked Version (x ∷ xs) unused = absurd (omega (arith, ap length unused))
-rest-here asked (Frames number offset) held unused =
+rest-here asked (Frames number offset version) held unused =
     let whole = end-by held (tail-part held (unused .0)) in
     record {
-      text = last-part (ltb 0 (length held)) ∙ sym (parts-part asked number offset held (unused .0));
-      frames = sym (sum-part one held (unused .0));
-      refusals = sym (sum-part (refusedOne asked) held (unused .0));
+      text = last-part (ltb 0 (length held)) ∙ sym (parts-part (inVersion version asked) number offset held (unused .0));
+      frames = sym (sum-part (one version) held (unused .0));
+      refusals = sym (sum-part (refusedOne asked version) held (unused .0));
       next = sym (ap (λ (x : Ending). x .next) whole);
       place = λ cut. omega (arith, ap (λ (x : Ending). x .tail) whole);
     }
@@ -72,7 +73,7 @@ rest-told asked true stage held reads none go-on by unused =
     told-as (sym (append-nil held) ∙ ap (λ (rs : List (List ℕ)). held ++ join rs) (sym (none refl)))
     (subst (λ (n : Next). Told asked stage held (lastLine n) 0 0 0 n) (sym by) (rest-here asked stage held unused))
 rest-told asked false Version held reads none go-on by unused = absurd (go-on by)
-rest-told asked false (Frames number offset) held reads none go-on by unused = absurd (go-on by)
+rest-told asked false (Frames number offset version) held reads none go-on by unused = absurd (go-on by)
 rest-told asked false Done held reads {next} none go-on by unused =
     record {
       text = ap lastLine by;

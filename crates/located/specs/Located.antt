@@ -8,6 +8,7 @@ use Rattle.text.specs.Choice.{when}
 use Rattle.text.specs.Words.{empty}
 use Rattle.frames.specs.Frames.{isWhole, bodyOf, frameSize, knownVersion}
 use Rattle.records.specs.declared.Asked.{Asked}
+use Rattle.records.specs.Records.{inVersion}
 use Rattle.listings.specs.Lines.{cutLine, versionLine}
 use Rattle.located.specs.Parts.{recordPart}
 
@@ -28,7 +29,7 @@ partsWithin (suc k) asked number offset xs =
 unfoldable pub partsOf : Asked → (number offset : ℕ) → List ℕ → List ℕ
 partsOf asked number offset xs = partsWithin (length xs) asked number offset xs
 
--- of a listing: records are numbered from 0, and the first stands after the version byte
+-- of a listing: records are numbered from 0, are of its version, and the first stands after the version byte
 unfoldable pub locatedText : Asked → List ℕ → List ℕ
 locatedText asked [] = cutLine
-locatedText asked (version ∷ xs) = cond (knownVersion version) (partsOf asked 0 1 xs) versionLine
+locatedText asked (version ∷ xs) = cond (knownVersion version) (partsOf (inVersion version asked) 0 1 xs) versionLine

@@ -14,7 +14,7 @@ use Rattle.answers.specs.Refusals.{answerOf}
 use Rattle.records.specs.declared.Asked.{Asked}
 use Rattle.records.specs.Records.{refusals, recordText}
 
--- so many bytes of a body stand on a line: every body that prints stands on one
+-- so many bytes of a body stand on a line: every version 1 body that prints stands on one
 abbrev pub perLine : ℕ
 perLine = 40
 

@@ -9,7 +9,7 @@ use lib.ListN.{length, take, drop}
 use Rattle.answers.specs.Refusals.{answerOf}
 use Rattle.frames.specs.Frames.{isWhole}
 use Rattle.records.specs.declared.Asked.{Asked}
-use Rattle.records.specs.Records.{refusals}
+use Rattle.records.specs.Records.{inVersion, refusals}
 use Rattle.streams.specs.Stream.{refusedBy}
 use Rattle.streams.specs.Pass.{lastLine}
 use Rattle.streams.specs.Counts.{sumOf, listingSum, Ending, ending, framesEnd, listingEnd}
@@ -23,26 +23,26 @@ use Rattle.located.specs.Located.{partsOf, locatedText}
 -- what is still to be said from a stage on, if all that is to come is xs
 unfoldable pub saying : Asked → Stage → List ℕ → List ℕ
 saying asked Version xs = locatedText asked xs
-saying asked (Frames number offset) xs = partsOf asked number offset xs
+saying asked (Frames number offset version) xs = partsOf (inVersion version asked) number offset xs
 saying asked Done xs = []
 
--- a number of each body that is still to come, added up
-unfoldable pub counting : (List ℕ → ℕ) → Stage → List ℕ → ℕ
+-- a number of each body that is still to come, in the listing's version, added up
+unfoldable pub counting : (ℕ → List ℕ → ℕ) → Stage → List ℕ → ℕ
 counting f Version xs = listingSum f xs
-counting f (Frames number offset) xs = sumOf f xs
+counting f (Frames number offset version) xs = sumOf (f version) xs
 counting f Done xs = 0
 
 -- the records, and those that are refused
-abbrev pub one : List ℕ → ℕ
-one body = 1
+abbrev pub one : (version : ℕ) → List ℕ → ℕ
+one version body = 1
 
-abbrev pub refusedOne : Asked → List ℕ → ℕ
-refusedOne asked body = refusedBy (answerOf (refusals asked body))
+abbrev pub refusedOne : Asked → (version : ℕ) → List ℕ → ℕ
+refusedOne asked version body = refusedBy (answerOf (refusals (inVersion version asked) body))
 
 -- how it ends
 unfoldable pub endOf : Stage → List ℕ → Ending
 endOf Version xs = listingEnd xs
-endOf (Frames number offset) xs = framesEnd xs
+endOf (Frames number offset version) xs = framesEnd xs
 endOf Done xs = ending Unknown 0
 
 -- The way from a stage with these bytes held to another, whatever comes after them: what is said and counted on it, before all that is
@@ -60,13 +60,13 @@ longestFrame = 65_537
 -- the bytes held are not enough for a step: there is no version byte, no whole frame
 abbrev pub Unused : Stage → List ℕ → Type 0
 Unused Version held = held ≡ []
-Unused (Frames number offset) held = (isWhole held ≡ false) × (length held < longestFrame)
+Unused (Frames number offset version) held = (isWhole held ≡ false) × (length held < longestFrame)
 Unused Done held = Unit {0}
 
 -- what comes next there
 abbrev pub nextAt : (ended : Bool) → Stage → ℕ → Next
 nextAt ended Version held = cond ended Cut Read
-nextAt ended (Frames number offset) held = cond ended (cond (ltb 0 held) Cut Whole) Read
+nextAt ended (Frames number offset version) held = cond ended (cond (ltb 0 held) Cut Whole) Read
 nextAt ended Done held = Unknown
 
 -- What comes after a pass: where the text is full, some bytes were used; else what is held is not enough for a step.

@@ -7,11 +7,15 @@ pub mod steps;
 
 use streams::Next;
 
-// How far a listing has come that arrives in parts: nothing yet; at a frame's start, with the number and the place of its record; or
-// past a version byte that is not known.
+// How far a listing has come that arrives in parts: nothing yet; at a frame's start, with the number and the place of its record and
+// the listing's version; or past a version byte that is not known.
 pub enum Stage {
     Version,
-    Frames { number: u64, offset: u64 },
+    Frames {
+        number: u64,
+        offset: u64,
+        version: u32,
+    },
     Done,
 }
 

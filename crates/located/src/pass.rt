@@ -26,7 +26,11 @@ fn next_at(ended: bool, stage: Stage, held: usize) -> Next
 {
     match stage {
         Stage::Version => { if ended { Next::Cut } else { Next::Read } }
-        Stage::Frames { number, offset } => {
+        Stage::Frames {
+            number,
+            offset,
+            version,
+        } => {
             if ended {
                 if 0 < held { Next::Cut } else { Next::Whole }
             } else {

@@ -14,6 +14,7 @@ use names::labels;
 use names::opcodes;
 use names::registers;
 use records::Asked;
+use records::judge::in_version;
 use streams::stream::refused_by;
 
 fn step_version(input: &[u8], asked: Asked, text: &mut [u8], out: usize) -> Step
@@ -29,11 +30,13 @@ fn step_version(input: &[u8], asked: Asked, text: &mut [u8], out: usize) -> Step
             refused: 0,
         };
     }
-    if frames::known_version(input[0]) {
+    let version = frames::numbers::byte_at(input, 0);
+    if frames::known_version(version) {
         return Step {
             stage: Stage::Frames {
                 number: 0,
                 offset: 1,
+                version,
             },
             used: 1,
             out,
@@ -61,6 +64,7 @@ fn step_frame(
     arms: &opcodes::Arms,
     number: u64,
     offset: u64,
+    version: u32,
     input: &[u8],
     asked: Asked,
     text: &mut [u8],
@@ -71,11 +75,15 @@ fn step_frame(
     requires { ⌜ LabelTable (now «label_letters») (now «label_starts») ⌝ }
     requires { ⌜ ArmTable (now arms) ⌝ }
     requires { ⌜ out + longestPart ≤ length (now text) ⌝ }
-    ensures { λ r. ⌜ Steps asked (Stage.Frames number offset) (now (input .entry)) (now (text .entry)) out r (now (text .exit)) ⌝ }
+    ensures { λ r. ⌜ Steps asked (Stage.Frames number offset version) (now (input .entry)) (now (text .entry)) out r (now (text .exit)) ⌝ }
 {
     if input.len() < 2 {
         return Step {
-            stage: Stage::Frames { number, offset },
+            stage: Stage::Frames {
+                number,
+                offset,
+                version,
+            },
             used: 0,
             out,
             records: 0,
@@ -85,7 +93,11 @@ fn step_frame(
     let end = 2 + frames::numbers::word_at(input, 0) as usize;
     if input.len() < end {
         return Step {
-            stage: Stage::Frames { number, offset },
+            stage: Stage::Frames {
+                number,
+                offset,
+                version,
+            },
             used: 0,
             out,
             records: 0,
@@ -103,7 +115,7 @@ fn step_frame(
         number,
         offset,
         &input[2..end],
-        asked,
+        in_version(version, asked),
         text,
         out,
     );
@@ -111,6 +123,7 @@ fn step_frame(
         stage: Stage::Frames {
             number: std::num::wrapping_add_u64(number, 1),
             offset: std::num::wrapping_add_u64(offset, end as u64),
+            version,
         },
         used: end,
         out: placed.out,
@@ -142,7 +155,11 @@ pub fn step(
 {
     match stage {
         Stage::Version => step_version(input, asked, text, out),
-        Stage::Frames { number, offset } => step_frame(
+        Stage::Frames {
+            number,
+            offset,
+            version,
+        } => step_frame(
             name_letters,
             name_starts,
             register_letters,
@@ -152,6 +169,7 @@ pub fn step(
             arms,
             number,
             offset,
+            version,
             input,
             asked,
             text,

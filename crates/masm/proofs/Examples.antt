@@ -10,7 +10,7 @@ use Prim.Native.String.{String}
 use lib.Dec.{eqb}
 use Rattle.masm.specs.Tokens.{bytes}
 use Rattle.masm.specs.Expressions.{Register}
-use Rattle.masm.specs.Operands.{Label, Byte, Dword, Qword, Tbyte, timesIn, Operand, register, immediate, branch, address}
+use Rattle.masm.specs.Operands.{Label, Byte, Dword, Qword, Tbyte, timesIn, Operand, register, immediate, sized, branch, address}
 use Rattle.masm.specs.Lines.{Rep, Sae, Nearest, Down, Up, Zero, Reading, shows, no-instruction, refused, read}
 
 -- a mnemonic and operands, with no prefix words and no tail
@@ -164,7 +164,7 @@ a-tail = refl
 
 -- a mask and a broadcast stand after an address, and a tail after the last operand
 misplaced : AllRead (
-    "f zmm1{k1}, [eax]" ∷ "f zmm1{1to8}" ∷ "f 5{k1}" ∷ "f 5{1to8}" ∷ "f $+5{k1}" ∷ "f short $+5{1to8}" ∷ "f [eax]{k1}{k2}" ∷ "f [eax]{1to8}{1to8}" ∷ "f [eax]{1to8}{k1}"
+    "f zmm1{k1}, [eax]" ∷ "f zmm1{1to8}" ∷ "f 5{k1}" ∷ "f 5{1to8}" ∷ "f short 5{k1}" ∷ "f near ptr 5{1to8}" ∷ "f $+5{k1}" ∷ "f short $+5{1to8}" ∷ "f [eax]{k1}{k2}" ∷ "f [eax]{1to8}{1to8}" ∷ "f [eax]{1to8}{k1}"
     ∷ "f zmm1 {sae}, zmm2" ∷ "f {sae}" ∷ "f zmm1, {sae}" ∷ "f {sae} zmm1" ∷ "f zmm1 {sae} {sae}" ∷ "f zmm1 {sae} zmm2" ∷ "f zmm1 {sae} + 5" ∷ "f [eax] {sae} {k1}" ∷ "{sae} f zmm1"
     ∷ "f {k1}" ∷ "f {k1}[eax]" ∷ "f [eax]{k1}[ecx]" ∷ "f [eax]{k1} + 8" ∷ "f [eax{k1}]" ∷ "f fs{k1}:[eax]" ∷ "f{k1} [eax]" ∷ []
     )
@@ -216,12 +216,38 @@ unfolding read
 near-target = refl
 
 -- `near` alone and `short ptr` say no width
-no-width : AllRead ("jmp near $" ∷ "jmp near $+5" ∷ "jmp short ptr $+5" ∷ "jmp ptr $+5" ∷ []) refused
+no-width : AllRead ("jmp near $" ∷ "jmp near $+5" ∷ "jmp short ptr $+5" ∷ "jmp ptr $+5" ∷ "jmp near 5" ∷ "jmp short ptr 5" ∷ "jmp ptr 5" ∷ []) refused
 unfolding read
 no-width = refl
 
--- a width stands before a target, and before nothing else
-a-width-without-a-target : AllRead ("jmp short" ∷ "jmp short eax" ∷ "jmp short 5" ∷ "jmp short [eax]" ∷ "jmp short fs:0" ∷ "jmp short dword ptr $" ∷ "jmp near ptr" ∷ "jmp near ptr eax" ∷ "jmp near ptr 80h" ∷ []) refused
+-- a number without `$` does not count from the start
+short-to-a-number : (start : ℕ) → read start (bytes "jmp short 00401019h") ≡ says "jmp" (sized 8 0x401019 ∷ [])
+unfolding read
+short-to-a-number start = refl
+
+near-to-a-number : (start : ℕ) → read start (bytes "jmp near ptr 0FFFFFF80h") ≡ says "jmp" (sized 32 0xFFFFFF80 ∷ [])
+unfolding read
+near-to-a-number start = refl
+
+to-a-number : (start : ℕ) → read start (bytes "call 0FFFFFF80h") ≡ says "call" (immediate 0xFFFFFF80 ∷ [])
+unfolding read
+to-a-number start = refl
+
+short-number : AllRead ("jmp short 5" ∷ "JMP SHORT 05H" ∷ "jmp short(5)" ∷ "jmp short 8 - 3" ∷ "jmp short -(1 - 2 * 3)" ∷ []) (says "jmp" (sized 8 5 ∷ []))
+unfolding read
+short-number = refl
+
+near-number : AllRead ("jmp near ptr -1" ∷ "JMP NEAR PTR 0ffffffffH" ∷ "jmp near\tPtr 1 - 2" ∷ "jmp near ptr(4294967295)" ∷ []) (says "jmp" (sized 32 4294967295 ∷ []))
+unfolding read
+near-number = refl
+
+-- a width stands before a target or a plain number, and before nothing else
+a-width-without-a-target : AllRead (
+    "jmp short" ∷ "jmp short eax" ∷ "jmp short [eax]" ∷ "jmp short [401019h]" ∷ "jmp short 8[401019h]" ∷ "jmp short fs:0" ∷ "jmp short fs:5" ∷ "jmp short fs:[5]"
+    ∷ "jmp short dword ptr $" ∷ "jmp short dword ptr 5" ∷ "jmp dword ptr short 5" ∷ "jmp short dword ptr [5]" ∷ "jmp short 5 eax" ∷ "jmp short 5 + eax" ∷ "jmp short $ + $"
+    ∷ "jmp near ptr" ∷ "jmp near ptr eax" ∷ "jmp near ptr [401019h]" ∷ "jmp near ptr dword ptr 5" ∷ "jmp near ptr fs:5" ∷ []
+    )
+    refused
 unfolding read
 a-width-without-a-target = refl
 

@@ -8,7 +8,7 @@ use lib.Dec.{T, eqb, eqb→eq}
 use lib.Ieee.Bits.{is-false}
 use Rattle.masm.specs.Tokens.{bytes, isDigit, isLetter, isWord, small, Token, word, sign, tokens, sameList, sameToken, lookup}
 use Rattle.masm.specs.Expressions.{begins, numeral, decimal, registers, Register}
-use Rattle.masm.specs.Operands.{widths, Label, labels, synonyms, segments, Operand, register, immediate, branch, address, typed, operand}
+use Rattle.masm.specs.Operands.{widths, Label, labels, synonyms, segments, Operand, register, immediate, sized, branch, address, typed, operand}
 use Rattle.masm.specs.Lines.{prefixWords}
 use Rattle.masm.proofs.Tokens.{both, all, apart, leads-apart, plain}
 use Rattle.masm.proofs.Numerals.{NumberText}
@@ -97,6 +97,7 @@ abbrev isRegister : Option Operand → Register → Bool
 isRegister none r = false
 isRegister (some (register s)) r = eqb s r
 isRegister (some (immediate n)) r = false
+isRegister (some (sized w n)) r = false
 isRegister (some (branch w n)) r = false
 isRegister (some (address l s t d m b)) r = false
 
@@ -104,6 +105,7 @@ is-register : (o : Option Operand) (r : Register) → T (isRegister o r) → o �
 is-register none r h = absurd h
 is-register (some (register s)) r h = ap (λ t. some (register t)) (eqb→eq s r h)
 is-register (some (immediate n)) r h = absurd h
+is-register (some (sized w n)) r h = absurd h
 is-register (some (branch w n)) r h = absurd h
 is-register (some (address l s t d m b)) r h = absurd h
 

@@ -7,7 +7,7 @@ use Prim.Native.Nat.{_+_}
 use Prim.Native.String.{String}
 use lib.ListN.{length}
 use Rattle.masm.specs.Tokens.{bytes}
-use Rattle.masm.specs.Operands.{Byte, Word, Dword, Qword, Tbyte, Xmmword, Zmmword, timesIn, Operand, register, immediate, branch, address}
+use Rattle.masm.specs.Operands.{Byte, Word, Dword, Qword, Tbyte, Xmmword, Zmmword, timesIn, Operand, register, immediate, sized, branch, address}
 use Rattle.masm.specs.Lines.{Prefix, Lock, Rep, Repe, Repne, Tail, Sae, Nearest, Down, Up, Zero, Reading, shows, no-instruction, refused, read}
 
 abbrev says : List Prefix → String → List Operand → Option Tail → Reading
@@ -98,7 +98,7 @@ lines-1 =
     (" ", no-instruction) ∷
     (" vmovapd [ ebp  *  1000Y+esi\t]\t+0dh ,\tzmm7 ; it's", says [] "vmovapd" (address none none (timesIn ((5, 8) ∷ (6, 1) ∷ [])) 13 none none ∷ register 71 ∷ []) none) ∷
     (" jmp short ($  + 0024Q); [ebx], 5", says [] "jmp" (branch (some 8) 4116 ∷ []) none) ∷
-    (" jmp near ptr -043610;;", refused) ∷
+    (" jmp near ptr -043610;;", says [] "jmp" (sized 32 4294923686 ∷ []) none) ∷
     (" ADC EDI,EDI", says [] "adc" (register 7 ∷ register 7 ∷ []) none) ∷
     ("\tmov cs: [ebp][ ebp  * 02- 066h],  ebp; [ebx], 5", says [] "mov" (address none (some 25) (timesIn ((5, 1) ∷ (5, 2) ∷ [])) 4294967194 none none ∷ register 5 ∷ []) none) ∷
     (" xChg E+bp,[Ecx]", refused) ∷

@@ -7,10 +7,10 @@ use Prim.Native.Nat.{ℕ, _+_, _%_, _^_}
 use lib.Dec.{T}
 use lib.Ieee.Bits.{is-true}
 use lib.IntN.{pos, negℤ, _+ℤ_, +ℤ-idl}
-use Rattle.masm.specs.Tokens.{bytes, isLetter, Token, word, sign, tokens, parts, lookup, back, isSaid, each, _>>=_}
+use Rattle.masm.specs.Tokens.{bytes, isDigit, isLetter, Token, word, sign, tokens, parts, lookup, front, back, isSaid, each, _>>=_}
 use Rattle.masm.specs.Expressions.{begins, Register, registers, Value, zero, expression}
 use Rattle.masm.specs.Operands.{Width, widths, Label, labels, synonyms, segments, timesIn, wrapped}
-use Rattle.masm.specs.Operands.{Operand, register, immediate, branch, address, addressOf, plainOf, typed, operand, masks, copies, decorated}
+use Rattle.masm.specs.Operands.{Operand, register, immediate, plain as plainNumber, branch, address, addressOf, plainOf, typed, operand, masks, copies, decorated}
 use Rattle.masm.specs.Lines.{Prefix, prefixWords, Tail, tails, Line, prefixed, operandsOf, instruction, line, shows, readTokens, read}
 use Rattle.masm.proofs.Tokens.{Leads, follows-append, quiet, quiet-append, plain, plain-append, no-brace, plain-whole, whole, whole-append, no-comma, whole-quiet, quiet-uncommented, unbroken, quiet-unbroken, one-part, part-before-comma, tokens-append, blank-between, comma-between}
 use Rattle.masm.proofs.Numerals.{NumberText}
@@ -55,17 +55,6 @@ decorated-operand {start} {m = m} {n = n} {u = u} {x = x} {y = y} t p q =
       reads = rw (e, decorated-append start (tokens u) h b (p .names q) (q .reads), t .reads) (completed-address m n);
     }
 
-pub number-operand : {start n : ℕ} {u : List ℕ} → NumberText n u → OperandText start (immediate (n % 2 ^ 32)) u
-number-operand {start} {n} {u} t =
-    let w = t .spelling in
-    let d = t .digit in
-    bare-operand
-    (record {
-      plainly = rw (t .one-token) tt;
-      reads =
-          rw (t .one-token, no-width w [] d, no-type w [] d, no-register w [] d, no-prefix-segment w [] d, ← (t .one-token), number-value t);
-    })
-
 -- the text names the register `r`
 pub record RegisterOperandText (r : Register) (u : List ℕ) : Type 0 where
   pub plainly : T (plain (tokens u))
@@ -74,26 +63,82 @@ pub record RegisterOperandText (r : Register) (u : List ℕ) : Type 0 where
 pub register-operand : {start r : ℕ} {u : List ℕ} → RegisterOperandText r u → OperandText start (register r) u
 register-operand {start} t = bare-operand (record { plainly = t .plainly; reads = t .reads start })
 
--- ---- Branch targets: perhaps a width, `$`, a sign and a number
+-- ---- Widths
+
+-- No width, type or segment begins with the word `v`, and it is no register: it is a number, or `$`.
+pub record Unnamed (v : List ℕ) (ts : List Token) : Type 0 where
+  pub unsized : front widths (word v ∷ ts) ≡ (none, word v ∷ ts)
+  pub untyped : front (labels ++ synonyms) (word v ∷ ts) ≡ (none, word v ∷ ts)
+  pub unsegmented : front segments (word v ∷ ts) ≡ (none, word v ∷ ts)
+  pub unregistered : lookup registers (word v ∷ ts) ≡ none
+
+number-unnamed : (v : List ℕ) (ts : List Token) → T (begins isDigit v) → Unnamed v ts
+number-unnamed v ts d =
+    record { unsized = no-width v ts d; untyped = no-type v ts d; unsegmented = no-prefix-segment v ts d; unregistered = no-register v ts d }
+
+dollar-unnamed : (ts : List Token) → Unnamed (bytes "$") ts
+unfolding widths labels synonyms segments registers
+dollar-unnamed ts = record { unsized = refl; untyped = refl; unsegmented = refl; unregistered = refl }
+
+-- an expression that has a width before it or nothing
+abbrev pub widened : (start : ℕ) → Option Width → List Token → Option Operand
+widened start w ts = expression ts >>= λ x. cond (x .bracket || false) (addressOf w none none x) (plainOf start w none x)
 
 -- the text is `short` or `near ptr` with the blank after it, or nothing
 pub record WidthText (w : Option Width) (t : List ℕ) : Type 0 where
   pub lead : List Token
   pub leads : Leads lead t
   pub plainly : T (plain lead)
-  pub names : (start : ℕ) (ts : List Token) → operand start (lead ++ word (bytes "$") ∷ ts) ≡ typed start w none (word (bytes "$") ∷ ts)
+  pub names : (start : ℕ) (v : List ℕ) (ts : List Token) → Unnamed v ts → operand start (lead ++ word v ∷ ts) ≡ widened start w (word v ∷ ts)
 
 pub no-width-word : WidthText none []
-unfolding widths labels synonyms
-no-width-word = record { lead = []; leads = λ u. refl; plainly = tt; names = λ start ts. refl }
+no-width-word =
+    record {
+      lead = [];
+      leads = λ u. refl;
+      plainly = tt;
+      names = λ start v ts n. rw (n .unsized, n .untyped, n .unregistered, n .unsegmented);
+    }
 
 pub short-word : WidthText (some 8) (bytes "short ")
-unfolding tokens widths labels synonyms
-short-word = record { lead = word (bytes "short") ∷ []; leads = λ u. refl; plainly = tt; names = λ start ts. refl }
+unfolding tokens widths
+short-word =
+    record {
+      lead = word (bytes "short") ∷ [];
+      leads = λ u. refl;
+      plainly = tt;
+      names = λ start v ts n. rw (n .untyped, n .unsegmented);
+    }
 
 pub near-word : WidthText (some 32) (bytes "near ptr ")
-unfolding tokens widths labels synonyms
-near-word = record { lead = word (bytes "near") ∷ word (bytes "ptr") ∷ []; leads = λ u. refl; plainly = tt; names = λ start ts. refl }
+unfolding tokens widths
+near-word =
+    record {
+      lead = word (bytes "near") ∷ word (bytes "ptr") ∷ [];
+      leads = λ u. refl;
+      plainly = tt;
+      names = λ start v ts n. rw (n .untyped, n .unsegmented);
+    }
+
+-- ---- Numbers: perhaps a width, and a number
+
+pub plain-operand : {start n : ℕ} {w : Option Width} {t u : List ℕ} → WidthText w t → NumberText n u
+    → OperandText start (plainNumber w (n % 2 ^ 32)) (t ++ u)
+plain-operand {start} {n} {w} {t} {u} x y =
+    let v = y .spelling in
+    let e : tokens (t ++ u) ≡ x .lead ++ word v ∷ []
+    = rw (x .leads, y .one-token) in
+    bare-operand
+    (record {
+      plainly = rw e (plain-append (x .lead) (word v ∷ []) (x .plainly) tt);
+      reads = rw (e, x .names start v [] (number-unnamed v [] (y .digit)), ← (y .one-token), number-value y);
+    })
+
+-- alone it is an immediate
+pub number-operand : {start n : ℕ} {u : List ℕ} → NumberText n u → OperandText start (immediate (n % 2 ^ 32)) u
+number-operand t = plain-operand no-width-word t
+
+-- ---- Branch targets: perhaps a width, `$`, a sign and a number
 
 abbrev from-dollar : (minus : Bool) → List Token → List Token
 from-dollar minus ts = word (bytes "$") ∷ sign (cond minus 45 43) ∷ ts
@@ -107,14 +152,6 @@ dollar-plain : (minus : Bool) (ts : List Token) → T (plain ts) → T (plain (f
 dollar-plain false ts h = h
 dollar-plain true ts h = h
 
--- `$` is no register, and no segment
-dollar-typed : (start : ℕ) (w : Option Width) (ts : List Token)
-    → typed start w none (word (bytes "$") ∷ ts)
-    ≡ (expression (word (bytes "$") ∷ ts) >>= λ v. cond (v .bracket || false) (addressOf w none none v) (plainOf start w none v))
-unfolding segments registers
-dollar-typed start none ts = refl
-dollar-typed start (some w) ts = refl
-
 pub branch-operand : {start n : ℕ} {w : Option Width} {t u : List ℕ} (minus : Bool) → WidthText w t → NumberText n u
     → OperandText start (branch w (wrapped (pos start +ℤ cond minus (negℤ (pos n)) (pos n)))) (t ++ (36 ∷ cond minus 45 43 ∷ u))
 branch-operand {start} {n} {w} {t} {u} minus x y =
@@ -127,8 +164,7 @@ branch-operand {start} {n} {w} {t} {u} minus x y =
       reads =
           rw (
             e,
-            x .names start (sign (cond minus 45 43) ∷ tokens u),
-            dollar-typed start w (sign (cond minus 45 43) ∷ tokens u),
+            x .names start (bytes "$") (sign (cond minus 45 43) ∷ tokens u) (dollar-unnamed (sign (cond minus 45 43) ∷ tokens u)),
             dollar-value minus y,
             +ℤ-idl (cond minus (negℤ (pos n)) (pos n)),
           );

@@ -14,8 +14,9 @@
 --   number      =  digits [`h` | `d` | `t` | `o` | `q` | `b` | `y`]              a digit first, and below 2^32
 --
 -- A register in an expression stands between brackets. `$` is the address of the instruction. An operand with a bracket or a segment is
--- an address; one with `$` is a branch target; any other is an immediate. `short` and `near ptr` stand before a branch target alone, and
--- say that the branch has 8 or 32 bits for its distance. A mask and a broadcast stand after an address alone.
+-- an address; one with `$` is a branch target; any other is a number, which is an immediate where nothing stands before it. `short` and
+-- `near ptr` stand before a branch target or a number alone, and say that the branch has 8 or 32 bits for its distance. A mask and a
+-- broadcast stand after an address alone.
 -- What stands there is read, and not judged for what an instruction can encode: any registers and multiples may stand in a bracket, and
 -- a bracket with a lone number is an address.
 pub mod Tokens

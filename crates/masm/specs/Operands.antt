@@ -1,4 +1,4 @@
--- MASM's operands: registers, immediates, branch targets and addresses, these with a mask and a broadcast after them.
+-- MASM's operands: registers, numbers, branch targets and addresses, these with a mask and a broadcast after them.
 -- Assumes nothing.
 use mathlib.Core.Bool.{cond, not, _&&_, _||_}
 use mathlib.Core.List.{List, [], _∷_, _++_}
@@ -47,11 +47,18 @@ pub data Operand : Type 0 where
   register : Register → Operand
   -- `0FFh`
   immediate : ℕ → Operand
+  -- `short 401019h`, `near ptr 401019h`: a number as an immediate is, and how many bits a branch to it has for its distance
+  sized : Width → (number : ℕ) → Operand
   -- `$+80h`, `short $+80h`, `near ptr $+80h`
   branch : Option Width → (target : ℕ) → Operand
   -- `dword ptr fs:[ebx + esi * 4 - 8]`, `[eax]{k1}`, `qword ptr [eax]{1to8}`, `[eax]{k1}{1to8}`
   address : Option Label → (segment : Option Register) (times : Register → ℕ) (disp : ℕ) (mask : Option Register) (broadcast : Option ℕ)
       → Operand
+
+-- a plain number, alone or after a word that says a width
+abbrev pub plain : Option Width → ℕ → Operand
+plain none n = immediate n
+plain (some width) n = sized width n
 
 -- how many times a register counts in all
 abbrev pub timesIn : List (Register × ℕ) → Register → ℕ
@@ -68,11 +75,11 @@ abbrev pub addressOf : Option Width → Option Label → Option Register → Val
 addressOf width label segment v =
     cond (isSaid width || not (eqb (v .starts) 0)) none (some (address label segment (timesIn (v .counts)) (wrapped (v .number)) none none))
 
--- without either: an immediate, or a branch target where `$`, the address of the instruction itself, stands there once
+-- without either: a branch target where `$`, the address of the instruction itself, stands there once, and a plain number without `$`
 abbrev pub plainOf : (start : ℕ) → Option Width → Option Label → Value → Option Operand
 plainOf start width label v =
     cond (eqb (v .starts) 1 && not (isSaid label)) (some (branch width (wrapped (pos start +ℤ v .number))))
-    (cond (eqb (v .starts) 0 && not (isSaid width || isSaid label)) (some (immediate (wrapped (v .number)))) none)
+    (cond (eqb (v .starts) 0 && not (isSaid label)) (some (plain width (wrapped (v .number)))) none)
 
 -- an expression with what stands before it
 abbrev pub expressed : (start : ℕ) → Option Width → Option Label → List Token → Option Operand
@@ -121,6 +128,7 @@ broadcast (t ∷ u ∷ v ∷ ts) =
 abbrev pub decorate : Option Register → Option ℕ → Operand → Option Operand
 decorate mask copied (register r) = none
 decorate mask copied (immediate n) = none
+decorate mask copied (sized width n) = none
 decorate mask copied (branch width target) = none
 decorate mask copied (address label segment times disp m c) = some (address label segment times disp mask copied)
 

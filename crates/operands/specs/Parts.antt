@@ -26,6 +26,24 @@ operandIn i (suc (suc zero)) = i .c
 operandIn i (suc (suc (suc zero))) = i .d
 operandIn i (suc (suc (suc (suc k)))) = Absent
 
+-- the same record at this start address
+abbrev pub startingAt : ℕ → Instruction → Instruction
+startingAt start i =
+    record {
+      opcode = i .opcode;
+      flags = i .flags;
+      length = i .length;
+      start = start;
+      size = i .size;
+      imm = i .imm;
+      bits = i .bits;
+      tail = i .tail;
+      a = i .a;
+      b = i .b;
+      c = i .c;
+      d = i .d;
+    }
+
 -- an operand itself: document 000's `visit_operand`
 abbrev pub shownOf : Operand → Shown
 shownOf Absent = shown.Nothing

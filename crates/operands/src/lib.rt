@@ -47,11 +47,12 @@ pub enum Operand {
     },
 }
 
-// An accepted record. `bits` are its length bits and `tail` its tail byte, which an extended record ends in; any other has 0 in both.
+// An accepted record, with its start address, which is 0 in version 1. `bits` are its length bits and `tail` its tail byte, which an extended record ends in; any other has 0 in both.
 pub struct Instruction {
     pub opcode: u16,
     pub flags: u8,
     pub length: u8,
+    pub start: u32,
     pub size: u8,
     pub imm: u32,
     pub bits: u8,
@@ -90,7 +91,7 @@ pub enum Label {
     Missing,
 }
 
-// The word before the `$` of a branch.
+// The word before the `$` or the target of a branch.
 pub enum BranchWord {
     // no text: `call $+80h`
     None,
@@ -101,7 +102,7 @@ pub enum BranchWord {
 }
 
 // What stands after label and segment: nothing at all, a register by its byte, `st`, an immediate, an absolute of 4 or of 8
-// digits, a bracket, or a branch from `$`.
+// digits, a bracket, a branch from `$`, or a branch's target.
 pub enum Shown {
     // no text
     Nothing,
@@ -122,6 +123,11 @@ pub enum Shown {
         word: BranchWord,
         minus: bool,
         size: u32,
+    },
+    // `00401019h`, `short 00401019h`, `near ptr 0FFFFFF80h`
+    Target {
+        word: BranchWord,
+        target: u32,
     },
 }
 

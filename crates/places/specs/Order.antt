@@ -6,7 +6,7 @@ use Rattle.operands.specs.Kinds.{isAbsent}
 use Rattle.operands.specs.declared.Instruction.{Instruction}
 use Rattle.operands.specs.declared.Items.{Items}
 use Rattle.operands.specs.declared.Shown.{Shown}
-use Rattle.operands.specs.declared.Shown.the-variants.{Nothing, Name, St, Number, Word, Dword, Bracket, Branch}
+use Rattle.operands.specs.declared.Shown.the-variants.{Nothing, Name, St, Number, Word, Dword, Bracket, Branch, Target}
 
 -- after an operand that is not there stands none: "an operand .. at or past the count"
 abbrev pub counted : Instruction → Bool
@@ -25,6 +25,7 @@ isNothing (Word address) = false
 isNothing (Dword address) = false
 isNothing (Bracket address) = false
 isNothing (Branch word minus size) = false
+isNothing (Target word target) = false
 
 -- after an operand of a line that shows nothing stands none that shows something
 abbrev pub fromTheLeft : Items → Bool

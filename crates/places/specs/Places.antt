@@ -55,9 +55,9 @@ unfoldable pub operandShown : Label → Segment → Bool → Mask → (second : 
 operandShown label segment short mask second b o =
     item (labelShown label o) (segmentShown segment o) (valueShown short o) (maskShown mask second o) (broadcastShown b o)
 
--- the branch of a record's operand 0: the arm that shows it, its kind, its distance and the instruction's length
+-- the branch of a record's operand 0: the arm that shows it, its kind, its distance, the instruction's length and its start address
 abbrev pub branchOf : Mode → Arm → Instruction → Shown
-branchOf mode arm i = branchShown mode arm (immediateKind (i .a)) (immediateOf (i .a)) (i .length)
+branchOf mode arm i = branchShown mode arm (immediateKind (i .a)) (immediateOf (i .a)) (i .length) (i .start)
 
 unfoldable pub itemAt : Mode → Arm → Instruction → Place → Item
 itemAt mode arm i place.Nothing = nothing

@@ -15,25 +15,25 @@ use Rattle.printed.specs.Rows.{prints, answers, Says, Holds}
 use Rattle.printed.specs.TableLimit.{limitRows}
 use Rattle.printed.proofs.Saying.{listing-says}
 
--- of a version byte of 2, whatever stands after it
-other-version : (asked : Asked) (n : ℕ) → listingText asked (list.replicate (suc n) 2) ≡ bytes "; version\n"
+-- of a version byte of 3, whatever stands after it
+other-version : (asked : Asked) (n : ℕ) → listingText asked (list.replicate (suc n) 3) ≡ bytes "; version\n"
 unfolding listingText
 other-version asked n = refl
 
 -- the answer goes by the length alone
-answer-by-length : (asked : Asked) (n b : ℕ) → ltb 1 (asked .mode) ≡ false → answerOf (listingRefusals asked (list.replicate n b)) ≡ cond (ltb 16_777_216 n) 2 0
+answer-by-length : (asked : Asked) (n b : ℕ) → ltb 2 (asked .mode) ≡ false → answerOf (listingRefusals asked (list.replicate n b)) ≡ cond (ltb 16_777_216 n) 2 0
 unfolding listingRefusals
 answer-by-length asked n b known = rw (known, list.length-replicate n b)
 
-module _ (mode n : ℕ) (known : ltb 1 mode ≡ false) where
-  short : ltb 16_777_216 (suc n) ≡ false → Says (listingOutcome (asking mode) (list.replicate (suc n) 2)) (prints "; version\n")
+module _ (mode n : ℕ) (known : ltb 2 mode ≡ false) where
+  short : ltb 16_777_216 (suc n) ≡ false → Says (listingOutcome (asking mode) (list.replicate (suc n) 3)) (prints "; version\n")
   short e =
-      listing-says (prints "; version\n") (asking mode) (list.replicate (suc n) 2)
-      (rw (answer-by-length (asking mode) (suc n) 2 known, e, other-version (asking mode) n))
+      listing-says (prints "; version\n") (asking mode) (list.replicate (suc n) 3)
+      (rw (answer-by-length (asking mode) (suc n) 3 known, e, other-version (asking mode) n))
 
-  long : ltb 16_777_216 (suc n) ≡ true → Says (listingOutcome (asking mode) (list.replicate (suc n) 2)) (answers 2)
+  long : ltb 16_777_216 (suc n) ≡ true → Says (listingOutcome (asking mode) (list.replicate (suc n) 3)) (answers 2)
   long e =
-      listing-says (answers 2) (asking mode) (list.replicate (suc n) 2) (rw (answer-by-length (asking mode) (suc n) 2 known, e))
+      listing-says (answers 2) (asking mode) (list.replicate (suc n) 3) (rw (answer-by-length (asking mode) (suc n) 3 known, e))
 
 pub limits-hold : All Holds limitRows
 unfolding limitRows

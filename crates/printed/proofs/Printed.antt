@@ -28,7 +28,8 @@ use Rattle.lines.specs.Items.{absoluteText, branchText, shownText, broadcastTex
 use Rattle.lines.specs.Head.{headOf}
 use Rattle.lines.specs.Text.{repsText, prefixesText, nameText, headText, partedText, itemsText, tailWord, lineText}
 use Rattle.records.specs.declared.Asked.{Asked}
-use Rattle.records.specs.Records.{refusals, lineAt, recordText}
+use Rattle.bodies.specs.Versions.{fields, startOf}
+use Rattle.records.specs.Records.{askedRefused, refusals, lineAt, recordText}
 use Rattle.records.specs.Lines.{recordLine}
 use Rattle.records.specs.Compared.{asking, All}
 use Rattle.records.proofs.PLines.{each}
@@ -66,7 +67,7 @@ wantedIn r mode = wanted (r .said)
 
 -- all rows at once
 computed : map (λ (r : Row). map (foundIn r) (r .modes)) t.computed ≡ map (λ (r : Row). map (wantedIn r) (r .modes)) t.computed
-unfolding t.computed branchRows generalRows nameRows armRows refusalRows listingRows maskRows vectorRows placeOf anyMasked isExtended maskKept broadcastRefused broadcastCount tailOf decorated placesOf decimalWithin maskText broadcastText tailWord refusals listingRefusals listingText linesOf linesWithin frontLine recordLine refusedText refusedLine recordText lineAt lengthRefused fieldRefused operandRefused segmentKept firstKept secondKept scaleKept shapeRefused sizeRefused armOf arms opcodes instructionOf operandAt operandOf immediate dispIn addressOf planOf spread general generalLabel sizeLabel lssLabel tbyteLabel labelAt operandShown itemAt itemsAt signed branchSum branchShown headOf digit digits placesFrom places figure numeral displacement absolute mnemonics mnemonic registers registerName segments segmentName labels labelWord labelText segmentText baseText scaleText indexedText indexText tailText bracketText absoluteText branchText shownText itemText repsText prefixesText nameText headText partedText itemsText lineText
+unfolding t.computed branchRows generalRows nameRows armRows refusalRows listingRows maskRows vectorRows placeOf anyMasked isExtended maskKept broadcastRefused broadcastCount tailOf decorated placesOf decimalWithin maskText broadcastText tailWord askedRefused fields startOf refusals listingRefusals listingText linesOf linesWithin frontLine recordLine refusedText refusedLine recordText lineAt lengthRefused fieldRefused operandRefused segmentKept firstKept secondKept scaleKept shapeRefused sizeRefused armOf arms opcodes instructionOf operandAt operandOf immediate dispIn addressOf planOf spread general generalLabel sizeLabel lssLabel tbyteLabel labelAt operandShown itemAt itemsAt signed branchSum branchShown headOf digit digits placesFrom places figure numeral displacement absolute mnemonics mnemonic registers registerName segments segmentName labels labelWord labelText segmentText baseText scaleText indexedText indexText tailText bracketText absoluteText branchText shownText itemText repsText prefixesText nameText headText partedText itemsText lineText
 computed = refl
 
 -- what is found in one of its modes is what the row says there

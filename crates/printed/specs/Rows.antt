@@ -62,7 +62,7 @@ abbrev pub straight : List ℕ
 straight = 1 ∷ []
 
 abbrev pub unknown : List ℕ
-unknown = 2 ∷ 4_294_967_295 ∷ []
+unknown = 3 ∷ 4_294_967_295 ∷ []
 
 -- a record's body: body both "0050 00 04 00 00000000 00000000 00" (prints "nop")
 abbrev pub body : List ℕ → String → Expected → Row
@@ -72,7 +72,7 @@ body modes given said = record { entry = oneRecord; modes = modes; given = hex g
 abbrev pub listing : List ℕ → String → Expected → Row
 listing modes given said = record { entry = oneListing; modes = modes; given = hex given; said = said }
 
--- a listing of one byte, so many times: repeated both "02" 16777217 (answers 2)
+-- a listing of one byte, so many times: repeated both "03" 16777217 (answers 2)
 abbrev pub repeated : List ℕ → String → ℕ → Expected → Row
 repeated modes given times said =
     record { entry = oneListing; modes = modes; given = list.replicate times (list.getD (hex given) 0 0); said = said }

@@ -6,6 +6,6 @@ use Rattle.printed.specs.Rows.{Row, prints, answers, both, crate, straig
 unfoldable pub limitRows : List Row
 limitRows =
     -- Listings at the limit, and a byte longer
-    repeated both "02" 16777216 (prints "; version\n") ∷
-    repeated both "02" 16777217 (answers 2) ∷
+    repeated both "03" 16777216 (prints "; version\n") ∷
+    repeated both "03" 16777217 (answers 2) ∷
     []

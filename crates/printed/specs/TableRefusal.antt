@@ -254,7 +254,7 @@ refusalRows =
     body both "0059 00 04 03 00000000 00000000 02 0B00060000 0100100000" (answers 4) ∷
     body both "005E 00 04 03 00000000 00000000 01 0B00000000" (answers 4) ∷
     body both "005F 00 04 03 00000000 00000000 02 0B00000000 0100080000" (answers 4) ∷
-    -- Answer 1: modes that are neither 0 nor 1, and before every other answer
+    -- Answer 1: numbers that are no mode, and before every other answer
     body unknown "0050 00 04 00 00000000 00000000 00" (answers 1) ∷
     body unknown "" (answers 1) ∷
     body unknown "0050 00 00 00 00000000 00000000 00" (answers 1) ∷

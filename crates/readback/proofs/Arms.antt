@@ -3,10 +3,11 @@
 use mathlib.Core.Path.{_≡_, refl, sym, _∙_}
 use mathlib.Core.Bool.{Bool, true, false, cond, not, _&&_, _||_, true≢false, or-false}
 use mathlib.Core.List.{[], _∷_}
+use Prim.Native.Nat.{ℕ}
 use borrow.Author.Tests.{not-false}
 use lib.Dec.{eqb}
 use Rattle.operands.specs.Kinds.{isAbsent, isRegister, isRegisterR, isMemory}
-use Rattle.operands.specs.Parts.{maskOf, isMaskRegister}
+use Rattle.operands.specs.Parts.{startingAt, maskOf, isMaskRegister}
 use Rattle.operands.specs.RegisterBytes.{isRegisterByte}
 use Rattle.operands.specs.declared.Operand.{Operand}
 use Rattle.operands.specs.declared.Broadcast.{Broadcast}
@@ -75,6 +76,7 @@ use Rattle.arms.proofs.ByArm.{at-lsl, scattering}
 use Rattle.arms.proofs.Over16.{plan-over}
 use Rattle.readback.proofs.Sound.{SoundItem}
 use Rattle.readback.proofs.SoundPlaces.{placeSound, sound-place}
+use Rattle.readback.proofs.Starts.{well-started, over-unstarted}
 
 -- ---- Plans
 
@@ -87,7 +89,7 @@ abbrev pub branches : Arm → Instruction → Bool
 branches arm i = (isRelative arm && isBranch (i .a)) || (isArm arm Xbegin && isXbegin (i .a))
 
 abbrev planSound : (branches : Bool) → Instruction → Plan → Bool
-planSound b i plan = placeSound b i (plan .a) && placeSound b i (plan .b) && placeSound b i (plan .c) && placeSound b i (plan .d)
+planSound b i plan = placeSound b (i .b) (plan .a) && placeSound b (i .b) (plan .b) && placeSound b (i .b) (plan .c) && placeSound b (i .b) (plan .d)
 
 -- either side of an arm's test
 either-plan : (arm : Arm) (i : Instruction) (p : Bool) (x y : Plan) → (p ≡ true → planSound (branches arm i) i x ≡ true) → (p ≡ false → planSound (branches arm i) i y ≡ true)
@@ -159,20 +161,20 @@ places-sound Fbld i s = refl
 places-sound Fbstp i s = refl
 
 -- a broadcast leaves a place as sound as it is
-sound-with-broadcast : (c : Bool) (i : Instruction) (b : Broadcast) (p : Place) → placeSound c i (broadcastAs b p) ≡ placeSound c i p
-sound-with-broadcast c i b place.Nothing = refl
-sound-with-broadcast c i b (place.Register reg) = refl
-sound-with-broadcast c i b place.Branch = refl
-sound-with-broadcast c i b (place.Operand k label segment short mask none) = refl
+sound-with-broadcast : (c : Bool) (second : Operand) (b : Broadcast) (p : Place) → placeSound c second (broadcastAs b p) ≡ placeSound c second p
+sound-with-broadcast c second b place.Nothing = refl
+sound-with-broadcast c second b (place.Register reg) = refl
+sound-with-broadcast c second b place.Branch = refl
+sound-with-broadcast c second b (place.Operand k label segment short mask none) = refl
 
 module _ (arm : Arm) (i : Instruction) where
   decorated-sound : (plan : Plan) → planSound (branches arm i) i plan ≡ true → planSound (branches arm i) i (decorated arm i plan) ≡ true
   unfolding decorated
   decorated-sound plan e =
       rw (
-        sound-with-broadcast (branches arm i) i (broadcastAfter arm i (i .a)) (plan .b),
-        sound-with-broadcast (branches arm i) i (broadcastAfter arm i (i .b)) (plan .c),
-        sound-with-broadcast (branches arm i) i (broadcastAfter arm i (i .c)) (plan .d),
+        sound-with-broadcast (branches arm i) (i .b) (broadcastAfter arm i (i .a)) (plan .b),
+        sound-with-broadcast (branches arm i) (i .b) (broadcastAfter arm i (i .b)) (plan .c),
+        sound-with-broadcast (branches arm i) (i .b) (broadcastAfter arm i (i .c)) (plan .d),
       )
       e
 
@@ -199,5 +201,7 @@ items-of mode arm i w plan e o =
       d = sound-place mode arm i w (plan .d) (search (both-left, both-right, e)) (search (neither-left, neither-right, o));
     }
 
-pub items-sound : (mode : Mode) (arm : Arm) (i : Instruction) → WellFormed i → shapeRefused arm i ≡ false → broadcastRefused arm i ≡ false → SoundItems (branches arm i) (itemsAt mode arm i (planOf arm i))
-items-sound mode arm i w s b = items-of mode arm i w (planOf arm i) (plan-sound arm i s) (plan-over arm i ∙ b)
+pub items-sound : (mode : Mode) (arm : Arm) (start : ℕ) (i : Instruction) → WellFormed i → shapeRefused arm i ≡ false → broadcastRefused arm i ≡ false
+    → SoundItems (branches arm i) (itemsAt mode arm (startingAt start i) (planOf arm i))
+items-sound mode arm start i w s b =
+    items-of mode arm (startingAt start i) (well-started start i w) (planOf arm i) (plan-sound arm i s) (over-unstarted start i (planOf arm i) ∙ plan-over arm i ∙ b)

@@ -1,11 +1,11 @@
--- Where MASM's reader takes printed branches to go, and with which width, in both modes.
+-- Where MASM's reader takes the branches that modes 0 and 1 print to go, and with which width.
 -- Assumes nothing.
 use mathlib.Core.Path.{_≡_, refl, sym, ap, subst, _∙_}
-use mathlib.Core.Bool.{not, Bool, true, false, cond, _&&_}
+use mathlib.Core.Bool.{not, Bool, true, false, cond, _&&_, true≢false}
 use mathlib.Core.List.{List, [], _∷_}
 use mathlib.Core.Logic.{inl, inr, _↔_}
 use mathlib.Core.Option.{Option, none, some}
-use Prim.Native.Nat.{ℕ, zero, suc, _+_, _%_, _^_, _<_}
+use Prim.Native.Nat.{ℕ, zero, suc, _+_, _%_, _^_, _≤_, _<_}
 use native.Mathlib.Decide.{ℕ-discrete, decLt}
 use native.Mathlib.Omega.{arith}
 use borrow.Author.Tests.{ne-eqb}
@@ -19,26 +19,28 @@ use Rattle.operands.specs.declared.BranchWord.the-variants.{None, Near}
 use Rattle.bodies.specs.WellFormed.{Kept, WellFormed}
 use Rattle.operands.specs.Kinds.{i8, i32}
 use Rattle.bodies.specs.Decoding.{instructionOf}
+use Rattle.bodies.specs.Versions.{recordOf}
+use Rattle.bodies.proofs.Picks.{picked}
 use Rattle.branches.specs.declared.Mode.{Mode}
-use Rattle.branches.specs.declared.Mode.the-variants.{Crate, Straight}
-use Rattle.branches.specs.Sums.{signed, branchSum, branchWord, branchShown, from128to255, modulo}
+use Rattle.branches.specs.declared.Mode.the-variants.{Crate, Straight, Target}
+use Rattle.branches.specs.Sums.{signed, branchSum, branchWord, shownSum, branchShown, from128to255, modulo}
+use Rattle.branches.proofs.Modulo.{target-wrapped}
 use Rattle.names.specs.Opcodes.{opcodes, arms, armOf}
-use Rattle.operands.specs.Parts.{immediateKind, immediateOf}
+use Rattle.operands.specs.Parts.{startingAt, immediateKind, immediateOf}
 use Rattle.arms.specs.Tests.{isBranch, isXbegin}
 use Rattle.arms.specs.Plans.{one, placesOf, planOf}
 use Rattle.arms.proofs.GeneralPath.{path-of-branch, path-of-call, path-of-xbegin}
 use Rattle.arms.proofs.Over16.{plan-of-own}
-use Rattle.places.specs.Places.{itemAt, itemsAt}
+use Rattle.places.specs.Places.{branchOf, itemAt, itemsAt}
 use Rattle.places.specs.declared.Place.the-variants as place
 use Rattle.names.specs.declared.Arm.the-variants.{General, Branch, Call, Xbegin}
-use Rattle.records.specs.Records.{modeOf, lineAt, recordText}
+use Rattle.records.specs.Records.{modeOf, fieldsOf, lineAt, recordText}
 use Rattle.records.specs.declared.Asked.{Asked}
 use Rattle.masm.specs.Operands.{Width, branch}
 use Rattle.readback.specs.Meaning.{widthOf, meaning}
 use Rattle.readback.specs.Printed.{Printed}
 use Rattle.readback.specs.Targets.{BranchRecord, short, long, distanceOf, recordTarget, BranchesTo, mode0Sum, mode0Width, noShortForm, straightWidth, FitsByte, FitsMode0}
-use Rattle.readback.proofs.Modulo.{modulo-plus}
-use Rattle.readback.proofs.Sums.{by-sign, modulo-wide, same-if-fits, fits-if-same, Short, sum-within, after-start, without-start, wide-sum}
+use Rattle.readback.proofs.Sums.{by-sign, same-if-fits, fits-if-same, Short, sum-within, after-start, without-start, wide-sum}
 use Rattle.readback.proofs.Readback.{well, reads-back}
 
 -- ---- The plan of a branch record
@@ -60,7 +62,7 @@ unfolding armOf arms opcodes
 xbegin-arm = refl
 
 -- a branch record by its arm, with its test, and whether it has a short form
-data ByArm (i : Instruction) : Type 0 where
+pub data ByArm (i : Instruction) : Type 0 where
   jump : armOf (i .opcode) ≡ Branch → isBranch (i .a) ≡ true → noShortForm i ≡ false → ByArm i
   call : armOf (i .opcode) ≡ Call → isBranch (i .a) ≡ true → noShortForm i ≡ true → ByArm i
   xbegin : armOf (i .opcode) ≡ Xbegin → isXbegin (i .a) ≡ true → noShortForm i ≡ true → ByArm i
@@ -73,7 +75,7 @@ module _ (i : Instruction) where
         | no n ↦ jump (jump-arm (i .opcode) h n) k (rw (ne-eqb (i .opcode) 1 n, ne-eqb (i .opcode) 22 (λ e. omega arith)))
       ]
 
-  by-arm : BranchRecord i → ByArm i
+  pub by-arm : BranchRecord i → ByArm i
   by-arm (short h k) = by-opcode h (rw k)
   by-arm (long h k) =
       elim (decLt (i .opcode) 22) [
@@ -93,10 +95,15 @@ module _ (i : Instruction) where
   unfolding placesOf
   xbegin-places k = rw k
 
-  shows-branch : ByArm i → planOf (armOf (i .opcode)) i ≡ one place.Branch
+  pub shows-branch : ByArm i → planOf (armOf (i .opcode)) i ≡ one place.Branch
   shows-branch (jump e k n) = rw e (sym (plan-of-own Branch i (path-of-branch i ∙ ap not k)) ∙ branch-places k)
   shows-branch (call e k n) = rw e (sym (plan-of-own Call i (path-of-call i ∙ ap not k)) ∙ call-places k)
   shows-branch (xbegin e k n) = rw e (sym (plan-of-own Xbegin i (path-of-xbegin i ∙ ap not k)) ∙ xbegin-places k)
+
+-- a branch record is one wherever it starts
+pub branch-unstarted : {start : ℕ} {i : Instruction} → BranchRecord (startingAt start i) → BranchRecord i
+branch-unstarted (short h k) = short h k
+branch-unstarted (long h k) = long h k
 
 -- ---- The sum that is shown
 
@@ -118,7 +125,7 @@ module _ (i : Instruction) where
   unfolding branchSum
   sum-short k = rw k
 
-  -- kind 5 wraps in 32 bits in both modes
+  -- kind 5 wraps in 32 bits in every mode
   sum-long : (mode : Mode) → immediateKind (i .a) ≡ i32 → sumOf mode i ≡ signed 32 bits
   unfolding branchSum
   sum-long mode k = rw k
@@ -128,6 +135,19 @@ module _ (i : Instruction) where
   unfolding branchSum
   sum-in-mode-0 (short h k) = rw k
   sum-in-mode-0 (long h k) = rw k
+
+-- the modes that show a sum, and not a target
+abbrev pub showsSum : Mode → Bool
+showsSum Crate = true
+showsSum Straight = true
+showsSum Target = false
+
+sum-shown : (mode : Mode) (i : Instruction) → showsSum mode ≡ true
+    → branchOf mode (armOf (i .opcode)) i ≡ shownSum mode (armOf (i .opcode)) (immediateKind (i .a)) (sumOf mode i)
+unfolding branchShown
+sum-shown Crate i e = refl
+sum-shown Straight i e = refl
+sum-shown Target i e = absurd (true≢false (sym e))
 
 -- ---- The width that is shown
 
@@ -140,7 +160,7 @@ near-width false = refl
 
 module _ (i : Instruction) where
   -- mode 1 has that of the kind, unless there is no short form
-  width-straight : ByArm i → BranchRecord i → widthIn Straight i ≡ straightWidth i
+  pub width-straight : ByArm i → BranchRecord i → widthIn Straight i ≡ straightWidth i
   width-straight (jump e k n) (short h s) = rw (e, n, s)
   width-straight (jump e k n) (long h s) = rw (e, n, s)
   width-straight (call e k n) r = rw (e, n)
@@ -154,18 +174,20 @@ module _ (i : Instruction) where
 
 -- ---- How the line is read
 
--- a printed branch record is read as a branch with the width that is shown, to the start and the sum that is shown
-module _ {asked : Asked} {body : List ℕ} (p : Printed asked body) (r : BranchRecord (instructionOf body)) (start : ℕ) where
+-- where a sum is shown, a printed branch record is read as a branch with the width that is shown, to the start and the sum that is shown
+module _ {asked : Asked} {body : List ℕ} (p : Printed asked body) (s : showsSum (modeOf asked) ≡ true) (r : BranchRecord (recordOf (asked .version) body)) (start : ℕ) where
   abbrev i : Instruction
-  i = instructionOf body
+  i = recordOf (asked .version) body
 
   -- where it goes
   abbrev shownTarget : ℕ
   shownTarget = modulo (pos start +ℤ sumOf (modeOf asked) i)
 
   pub one-branch : (meaning start (lineAt asked body)) .operands ≡ branch (widthIn (modeOf asked) i) shownTarget ∷ []
-  unfolding meaning lineAt itemsAt itemAt branchShown
-  one-branch = rw (shows-branch i (by-arm i r), by-sign (sumOf (modeOf asked) i))
+  unfolding meaning lineAt itemsAt itemAt
+  one-branch =
+      let f = instructionOf (fieldsOf asked body) in
+      rw (shows-branch f (by-arm f (branch-unstarted r)), sum-shown (modeOf asked) i s, by-sign (sumOf (modeOf asked) i))
 
   -- so it has a width and a target exactly where they are those
   goes : {width : Option Width} {target : ℕ} → widthIn (modeOf asked) i ≡ width → shownTarget ≡ target → BranchesTo start (recordText asked body) width target
@@ -190,9 +212,7 @@ target-sum start i =
 
 -- in numbers alone: the distance is held as 32 bits, so its bits are added
 pub target-by-bits : (start : ℕ) (i : Instruction) → recordTarget start i ≡ (start + i .length + immediateOf (i .a)) % 2 ^ 32
-target-by-bits start i =
-    let e = modulo-wide (immediateOf (i .a)) in
-    modulo-plus (start + i .length) (distanceOf i) ∙ omega arith
+target-by-bits start i = target-wrapped start (i .length) (immediateOf (i .a)) ∙ omega arith
 
 -- an accepted distance of kind 3 is one of 8 bits
 short-kept : (o : Operand) → Kept o → immediateKind o ≡ i8 → (immediateOf o < 2 ^ 32) × Short (immediateOf o)
@@ -236,57 +256,73 @@ module _ (i : Instruction) where
 
 -- ---- The theorems
 
-straight-asked : {asked : Asked} → asked .mode ≡ 1 → modeOf asked ≡ Straight
-straight-asked e = rw e
+straight-asked : (asked : Asked) → asked .mode ≡ 1 → modeOf asked ≡ Straight
+straight-asked asked e = rw e
 
-crate-asked : {asked : Asked} → asked .mode ≡ 0 → modeOf asked ≡ Crate
-crate-asked e = rw e
+crate-asked : (asked : Asked) → asked .mode ≡ 0 → modeOf asked ≡ Crate
+crate-asked asked e = rw e
+
+-- modes 0 and 1 show a sum
+pub sum-asked : (asked : Asked) → asked .mode ≤ 1 → showsSum (modeOf asked) ≡ true
+sum-asked asked h =
+    rw (ne-eqb (asked .mode) 2 (λ e. omega arith))
+    (picked (λ (m : Mode). showsSum m ≡ true) (eqb (asked .mode) 1) Straight Crate (λ e. refl) (λ e. refl))
 
 module _ {asked : Asked} {body : List ℕ} (p : Printed asked body) where
-  module _ (m : asked .mode ≡ 1) (r : BranchRecord (instructionOf body)) (start : ℕ) where
-    shown-straight : widthIn (modeOf asked) (instructionOf body) ≡ straightWidth (instructionOf body)
-    shown-straight = rw (straight-asked m) (width-straight (instructionOf body) (by-arm (instructionOf body) r) r)
+  module _ (m : asked .mode ≡ 1) (r : BranchRecord (recordOf (asked .version) body)) (start : ℕ) where
+    sums-1 : showsSum (modeOf asked) ≡ true
+    sums-1 = sum-asked asked (omega arith)
+
+    shown-straight : widthIn (modeOf asked) (recordOf (asked .version) body) ≡ straightWidth (recordOf (asked .version) body)
+    shown-straight = rw (straight-asked asked m) (width-straight (recordOf (asked .version) body) (by-arm (recordOf (asked .version) body) r) r)
 
     -- Mode 1: every printed branch record is read as a branch to start plus length plus distance, modulo 2^32, with the width of mode 1,
-    pub straight-branch : BranchesTo start (recordText asked body) (straightWidth (instructionOf body)) (recordTarget start (instructionOf body))
-    straight-branch = goes p r start shown-straight (rw (straight-asked m) (straight-target (instructionOf body) start r))
+    pub straight-branch : BranchesTo start (recordText asked body) (straightWidth (recordOf (asked .version) body)) (recordTarget start (recordOf (asked .version) body))
+    straight-branch = goes p sums-1 r start shown-straight (rw (straight-asked asked m) (straight-target (recordOf (asked .version) body) start r))
 
     -- and with no other.
     pub straight-width-only : {width : Option Width} {target : ℕ} → BranchesTo start (recordText asked body) width target
-        → straightWidth (instructionOf body) ≡ width
-    straight-width-only b = sym shown-straight ∙ goes-only p r start b .0
+        → straightWidth (recordOf (asked .version) body) ≡ width
+    straight-width-only b = sym shown-straight ∙ goes-only p sums-1 r start b .0
 
-  module _ (m : asked .mode ≡ 0) (r : BranchRecord (instructionOf body)) (start : ℕ) where
-    shown-mode-0 : widthIn (modeOf asked) (instructionOf body) ≡ mode0Width (instructionOf body)
-    shown-mode-0 = rw (crate-asked m) (width-in-mode-0 (instructionOf body) r)
+    pub straight-target-only : {width : Option Width} {target : ℕ} → BranchesTo start (recordText asked body) width target
+        → recordTarget start (recordOf (asked .version) body) ≡ target
+    straight-target-only b = sym (straight-target (recordOf (asked .version) body) start r) ∙ rw (straight-asked asked m) at (goes-only p sums-1 r start b .1)
+
+  module _ (m : asked .mode ≡ 0) (r : BranchRecord (recordOf (asked .version) body)) (start : ℕ) where
+    sums-0 : showsSum (modeOf asked) ≡ true
+    sums-0 = sum-asked asked (omega arith)
+
+    shown-mode-0 : widthIn (modeOf asked) (recordOf (asked .version) body) ≡ mode0Width (recordOf (asked .version) body)
+    shown-mode-0 = rw (crate-asked asked m) (width-in-mode-0 (recordOf (asked .version) body) r)
 
     -- Mode 0: it is read as a branch to the start plus the sum as it wraps, modulo 2^32, with the width of mode 0,
-    pub mode-0-shown : BranchesTo start (recordText asked body) (mode0Width (instructionOf body)) (modulo (pos start +ℤ mode0Sum (instructionOf body)))
+    pub mode-0-shown : BranchesTo start (recordText asked body) (mode0Width (recordOf (asked .version) body)) (modulo (pos start +ℤ mode0Sum (recordOf (asked .version) body)))
     mode-0-shown =
-        goes p r start shown-mode-0 (rw (crate-asked m) (ap (λ (z : ℤ). modulo (pos start +ℤ z)) (sum-in-mode-0 (instructionOf body) r)))
+        goes p sums-0 r start shown-mode-0 (rw (crate-asked asked m) (ap (λ (z : ℤ). modulo (pos start +ℤ z)) (sum-in-mode-0 (recordOf (asked .version) body) r)))
 
     -- and with no other.
     pub mode-0-width-only : {width : Option Width} {target : ℕ} → BranchesTo start (recordText asked body) width target
-        → mode0Width (instructionOf body) ≡ width
-    mode-0-width-only b = sym shown-mode-0 ∙ goes-only p r start b .0
+        → mode0Width (recordOf (asked .version) body) ≡ width
+    mode-0-width-only b = sym shown-mode-0 ∙ goes-only p sums-0 r start b .0
 
     -- It goes to the target exactly where the distance is 32 bits wide, or its sum with the length is from -128 to 127.
-    goes-if-fits : BranchRecord (instructionOf body) → FitsMode0 (instructionOf body)
-        → BranchesTo start (recordText asked body) (mode0Width (instructionOf body)) (recordTarget start (instructionOf body))
+    goes-if-fits : BranchRecord (recordOf (asked .version) body) → FitsMode0 (recordOf (asked .version) body)
+        → BranchesTo start (recordText asked body) (mode0Width (recordOf (asked .version) body)) (recordTarget start (recordOf (asked .version) body))
     goes-if-fits (short h k) (inl e) = absurd (omega arith)
-    goes-if-fits (short h k) (inr f) = goes p r start shown-mode-0 (rw (crate-asked m) (short-fits (instructionOf body) (well p) k start f))
-    goes-if-fits (long h k) c = goes p r start shown-mode-0 (rw (crate-asked m) (long-target (instructionOf body) Crate start k))
+    goes-if-fits (short h k) (inr f) = goes p sums-0 r start shown-mode-0 (rw (crate-asked asked m) (short-fits (recordOf (asked .version) body) (well p) k start f))
+    goes-if-fits (long h k) c = goes p sums-0 r start shown-mode-0 (rw (crate-asked asked m) (long-target (recordOf (asked .version) body) Crate start k))
 
-    fits-if-goes : {width : Option Width} → BranchRecord (instructionOf body)
-        → BranchesTo start (recordText asked body) width (recordTarget start (instructionOf body)) → FitsMode0 (instructionOf body)
-    fits-if-goes (short h k) b = inr (fits-short (instructionOf body) (well p) k start (rw (crate-asked m) at (goes-only p r start b .1)))
+    fits-if-goes : {width : Option Width} → BranchRecord (recordOf (asked .version) body)
+        → BranchesTo start (recordText asked body) width (recordTarget start (recordOf (asked .version) body)) → FitsMode0 (recordOf (asked .version) body)
+    fits-if-goes (short h k) b = inr (fits-short (recordOf (asked .version) body) (well p) k start (rw (crate-asked asked m) at (goes-only p sums-0 r start b .1)))
     fits-if-goes (long h k) b = inl k
 
     -- whatever stands before `$`
-    pub mode-0-only : {width : Option Width} → BranchesTo start (recordText asked body) width (recordTarget start (instructionOf body))
-        → FitsMode0 (instructionOf body)
+    pub mode-0-only : {width : Option Width} → BranchesTo start (recordText asked body) width (recordTarget start (recordOf (asked .version) body))
+        → FitsMode0 (recordOf (asked .version) body)
     mode-0-only b = fits-if-goes r b
 
-    pub mode-0-branch : BranchesTo start (recordText asked body) (mode0Width (instructionOf body)) (recordTarget start (instructionOf body))
-        ↔ FitsMode0 (instructionOf body)
+    pub mode-0-branch : BranchesTo start (recordText asked body) (mode0Width (recordOf (asked .version) body)) (recordTarget start (recordOf (asked .version) body))
+        ↔ FitsMode0 (recordOf (asked .version) body)
     mode-0-branch = (mode-0-only, goes-if-fits r)

@@ -17,6 +17,7 @@ use Rattle.names.specs.Opcodes.{opcodes, arms, armOf, mnemonics, mnemonic}
 use Rattle.bodies.specs.Body.{placeOf, anyMasked, isExtended}
 use Rattle.bodies.specs.Refusals.{lengthRefused, segmentKept, firstKept, secondKept, scaleKept, maskKept, operandRefused, fieldRefused}
 use Rattle.bodies.specs.Decoding.{immediate, operandOf, operandAt, instructionOf}
+use Rattle.bodies.specs.Versions.{fields, recordOf}
 use Rattle.bodies.specs.WellFormed.{Bytes}
 use Rattle.branches.specs.Sums.{signed, branchSum, branchShown}
 use Rattle.places.specs.Places.{itemAt, itemsAt}
@@ -30,7 +31,7 @@ use Rattle.lines.specs.Brackets.{maskText}
 use Rattle.lines.specs.Items.{branchText, shownText, broadcastText, itemText}
 use Rattle.lines.specs.Text.{repsText, prefixesText, nameText, headText, partedText, itemsText, tailWord, lineText}
 use Rattle.records.specs.Compared.{asking, jmp}
-use Rattle.records.specs.Records.{refusals, lineAt, recordText}
+use Rattle.records.specs.Records.{askedRefused, refusals, lineAt, recordText}
 use Rattle.masm.specs.Operands.{Width}
 use Rattle.masm.proofs.Tokens.{both, all}
 use Rattle.readback.specs.Printed.{Printed}
@@ -49,15 +50,15 @@ bytes-tested (x ∷ xs) h (suc at) = let (a, b) = both (ltb x (2 ^ 8)) (all (λ 
 
 -- the body is printed in mode 0
 pub jump-printed : Printed (asking 0) shortJump
-unfolding refusals placeOf anyMasked isExtended maskKept broadcastRefused lengthRefused fieldRefused operandRefused segmentKept firstKept secondKept scaleKept instructionOf operandAt operandOf immediate shapeRefused sizeRefused armOf arms opcodes
+unfolding refusals askedRefused fields placeOf anyMasked isExtended maskKept broadcastRefused lengthRefused fieldRefused operandRefused segmentKept firstKept secondKept scaleKept instructionOf operandAt operandOf immediate shapeRefused sizeRefused armOf arms opcodes
 jump-printed = record { bytes = bytes-tested shortJump tt; accepted = refl }
 
 pub jump-text : recordText (asking 0) shortJump ≡ bytes "jmp $-80h"
-unfolding recordText lineAt placeOf anyMasked isExtended placesOf decorated tailWord maskText broadcastText instructionOf operandAt operandOf immediate armOf arms opcodes planOf itemsAt itemAt branchShown branchSum signed headOf lineText headText prefixesText repsText nameText mnemonic mnemonics itemsText partedText itemText labelText labelWord labels segmentText shownText branchText numeral figure places placesFrom digits digit
+unfolding recordText lineAt fields placeOf anyMasked isExtended placesOf decorated tailWord maskText broadcastText instructionOf operandAt operandOf immediate armOf arms opcodes planOf itemsAt itemAt branchShown branchSum signed headOf lineText headText prefixesText repsText nameText mnemonic mnemonics itemsText partedText itemText labelText labelWord labels segmentText shownText branchText numeral figure places placesFrom digits digit
 jump-text = refl
 
 -- and is read as a branch to the record's target from no start
 pub jump-misread : {width : Option Width} (start : ℕ)
-    → BranchesTo start (recordText (asking 0) shortJump) width (recordTarget start (instructionOf shortJump)) → ⊥
-unfolding signed placeOf anyMasked isExtended instructionOf operandAt operandOf immediate
+    → BranchesTo start (recordText (asking 0) shortJump) width (recordTarget start (recordOf 1 shortJump)) → ⊥
+unfolding signed fields placeOf anyMasked isExtended instructionOf operandAt operandOf immediate
 jump-misread start b = elim (mode-0-only jump-printed refl (short (lit< tt) refl) start b) [ inl e ↦ omega arith | inr f ↦ omega arith ]

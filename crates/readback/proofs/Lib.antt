@@ -6,11 +6,13 @@ pub mod Addresses
 pub mod Modulo
 pub mod Operands
 pub mod Lines
-pub mod SoundPlaces
-pub mod Arms
 pub mod Sums
+pub mod SoundPlaces
+pub mod Starts
+pub mod Arms
 pub mod Readback
 pub mod Branching
+pub mod Targets
 pub mod Widths
 pub mod Exactly
 pub mod Counterexample

@@ -14,6 +14,7 @@ use Rattle.text.proofs.Choosing.{cond-by}
 use Rattle.answers.specs.Lines.{newline}
 use Rattle.frames.specs.Frames.{bodyLength, bodyOf, knownVersion}
 use Rattle.bodies.specs.WellFormed.{Bytes}
+use Rattle.records.specs.Records.{inVersion}
 use Rattle.records.specs.declared.Asked.{Asked}
 use Rattle.streams.proofs.Streaming.{part-cut}
 use Rattle.located.specs.Parts.{pair, pairs, bodyText, headLine, shownText, commentText, recordPart}
@@ -86,9 +87,11 @@ module _ (asked : Asked) where
       (part-lines-short number offset (bodyOf xs) _ a b (bytes-take (bodyLength xs) (drop 2 xs) (bytes-drop 2 xs small))
       (parts-short k (wrapped (number + 1)) (wrapped (offset + size)) (drop size xs) (omega (arith, h, whole, length-drop size xs)) (within-64 (number + 1)) (within-64 (offset + size)) (bytes-drop size xs small))))
 
-  -- MASM takes lines of up to 512 letters: no line of the text is longer.
-  pub located-lines-short : (listing : List ℕ) → Bytes listing → Short (linesIn (locatedText asked listing))
-  unfolding locatedText
-  located-lines-short [] small = (lit≤ tt, tt)
-  located-lines-short (version ∷ xs) small =
-      cond-by ShortText (knownVersion version) (λ e. parts-short (length xs) 0 1 xs (omega arith) (lit< tt) (lit< tt) (λ at. small (suc at))) (λ e. (lit≤ tt, tt))
+-- MASM takes lines of up to 512 letters: no line of the text is longer.
+pub located-lines-short : (asked : Asked) (listing : List ℕ) → Bytes listing → Short (linesIn (locatedText asked listing))
+unfolding locatedText
+located-lines-short asked [] small = (lit≤ tt, tt)
+located-lines-short asked (version ∷ xs) small =
+    cond-by ShortText (knownVersion version)
+    (λ e. parts-short (inVersion version asked) (length xs) 0 1 xs (omega arith) (lit< tt) (lit< tt) (λ at. small (suc at)))
+    (λ e. (lit≤ tt, tt))

@@ -7,7 +7,7 @@ use Prim.Native.Nat.{ℕ}
 use Rattle.text.specs.Choice.{when}
 use Rattle.text.specs.Words.{bytes}
 use Rattle.operands.specs.declared.Shown.{Shown}
-use Rattle.operands.specs.declared.Shown.the-variants.{Nothing, Name, St, Number, Word, Dword, Bracket, Branch}
+use Rattle.operands.specs.declared.Shown.the-variants.{Nothing, Name, St, Number, Word, Dword, Bracket, Branch, Target}
 use Rattle.operands.specs.declared.Tail.{Tail}
 use Rattle.operands.specs.declared.Tail.the-variants as tail
 use Rattle.operands.specs.declared.Item.{Item}
@@ -46,6 +46,7 @@ shows-something (Word address) = refl
 shows-something (Dword address) = refl
 shows-something (Bracket address) = refl
 shows-something (Branch word minus size) = refl
+shows-something (Target word target) = refl
 
 is-nothing : (x : Shown) → isNothing x ≡ true → x ≡ Nothing
 is-nothing Nothing e = refl
@@ -56,6 +57,7 @@ is-nothing (Word address) e = absurd (false≢true e)
 is-nothing (Dword address) e = absurd (false≢true e)
 is-nothing (Bracket address) e = absurd (false≢true e)
 is-nothing (Branch word minus size) e = absurd (false≢true e)
+is-nothing (Target word target) e = absurd (false≢true e)
 
 module _ (start : ℕ) (x : Item) where
   no-text : isNothing (x .shown) ≡ true → (separator : List ℕ) → partedText separator x ≡ []

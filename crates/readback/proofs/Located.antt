@@ -17,7 +17,7 @@ use Rattle.frames.specs.Frames.{bodyLength, bodyOf, knownVersion}
 use Rattle.bodies.specs.WellFormed.{Bytes}
 use Rattle.records.specs.declared.Asked.{Asked}
 use Rattle.records.specs.Lines.{recordLine}
-use Rattle.records.specs.Records.{refusals}
+use Rattle.records.specs.Records.{refusals, inVersion}
 use Rattle.listings.specs.Lines.{linesOf, listingText}
 use Rattle.streams.specs.declared.Next.{Next}
 use Rattle.streams.proofs.Streaming.{part-cut, lines-part, lines-whole}
@@ -166,14 +166,17 @@ module _ (start : ℕ) where
         whole-read number offset xs whole small
         (parts-read k (wrapped (number + 1)) (wrapped (offset + size)) (drop size xs) (omega (arith, h, whole, length-drop size xs)) (bytes-drop size xs small)))
 
+  -- ---- The theorems
+
+  module _ (asked : Asked) where
     -- MASM reads in the text of a listing with the place of each record the instructions that it reads in the listing's lines, in their
-    -- order, and no other.
+    -- order, and no other; in both the records are of the listing's version.
     pub located-reads-back : (listing : List ℕ) → Bytes listing → instructionsIn start (locatedText asked listing) ≡ instructionsIn start (listingText asked listing)
     unfolding locatedText listingText
     located-reads-back [] small = refl
     located-reads-back (version ∷ xs) small =
         cond-by (λ (b : Bool). instructionsIn start (locatedText asked (version ∷ xs)) ≡ instructionsIn start (listingText asked (version ∷ xs))) (knownVersion version) {x = true} {y = false}
-        (λ e. rw e (parts-read (length xs) 0 1 xs (omega arith) (λ at. small (suc at)))) (λ e. rw e)
+        (λ e. rw e (parts-read (inVersion version asked) (length xs) 0 1 xs (omega arith) (λ at. small (suc at)))) (λ e. rw e)
 
     -- In whatever parts the listing arrives.
     pub run-reads-back : {reads : List (List ℕ)} {written : List ℕ} {records refused used : ℕ} {last : Next} → Bytes (join reads) → Runs asked false Version [] reads written records refused used last → instructionsIn start written ≡ instructionsIn start (listingText asked (join reads))

@@ -15,19 +15,19 @@ use Rattle.operands.specs.declared.Broadcast.{Broadcast}
 use Rattle.operands.specs.declared.BranchWord.{BranchWord}
 use Rattle.operands.specs.declared.BranchWord.the-variants as word
 use Rattle.operands.specs.declared.Shown.{Shown}
-use Rattle.operands.specs.declared.Shown.the-variants.{Nothing, Name, St, Number, Word, Dword, Bracket, Branch}
+use Rattle.operands.specs.declared.Shown.the-variants.{Nothing, Name, St, Number, Word, Dword, Bracket, Branch, Target}
 use Rattle.operands.specs.declared.Item.{Item}
 use Rattle.branches.specs.Sums.{modulo}
 use Rattle.names.specs.Labels.{labels, labelWord}
 use Rattle.lines.specs.Fronts.{labelText, segmentText}
 use Rattle.lines.specs.Brackets.{bracketText, maskText}
-use Rattle.lines.specs.Items.{absoluteText, wordText, branchText, shownText, broadcastText, itemText}
+use Rattle.lines.specs.Items.{absoluteText, wordText, branchText, targetText, shownText, broadcastText, itemText}
 use Rattle.bodies.specs.WellFormed.{AddressKept}
 use Rattle.lines.specs.Text.{shows}
 use Rattle.masm.specs.Expressions.{Register, constant}
-use Rattle.masm.specs.Operands.{Operand, branch, address, timesIn, wrapped}
+use Rattle.masm.specs.Operands.{Operand, plain, branch, address, timesIn, wrapped}
 use Rattle.masm.proofs.Expressions.{number-term, term-sum}
-use Rattle.masm.proofs.Texts.{BareText, OperandText, decorated-operand, number-operand, register-operand, WidthText, no-width-word, short-word, near-word, branch-operand, bare-address}
+use Rattle.masm.proofs.Texts.{BareText, OperandText, decorated-operand, number-operand, plain-operand, register-operand, WidthText, no-width-word, short-word, near-word, branch-operand, bare-address}
 use Rattle.readback.specs.Meaning.{bySign, widthOf, labelOf, segmentOf, maskOf, copiesOf, timesOf, addedOf, itemOf}
 use Rattle.readback.proofs.Sound.{SoundMask, SoundBroadcast, Bare, SoundItem, isMissing, isNothing}
 use Rattle.readback.proofs.Numbers.{numeral-text, absolute-text}
@@ -65,7 +65,7 @@ module _ (start : ℕ) (l : Label) (s : ℕ) (known : isMissing l ≡ false) (fe
         decorated-address _
         (rw (zero-add v) at (bare-address {start = start} (label-name l known) (segment-name s few) (term-sum (number-term (absolute-text j v h k))) refl))
 
--- ---- Branches
+-- ---- Branches and targets
 
 word-width : (w : BranchWord) → WidthText (widthOf w) (wordText w)
 word-width word.None = no-width-word
@@ -81,6 +81,11 @@ branch-shown : (start : ℕ) (w : BranchWord) (minus : Bool) (size : ℕ) → si
     → OperandText start (branch (widthOf w) (modulo (pos start +ℤ bySign minus size))) (branchText w minus size)
 branch-shown start w minus size h =
     rw (branch-parts w minus size, ← (wrapped-modulo (pos start +ℤ bySign minus size))) (branch-operand minus (word-width w) (numeral-text size h))
+
+target-shown : (start : ℕ) (w : BranchWord) (target : ℕ) → target < 2 ^ 32
+    → OperandText start (plain (widthOf w) (target % 2 ^ 32)) (targetText w target)
+unfolding targetText
+target-shown start w target h = plain-operand (word-width w) (absolute-text 7 target h h)
 
 -- ---- Items
 
@@ -117,6 +122,7 @@ module _ (start : ℕ) (l : Label) (s mask : ℕ) (b : Broadcast) (known : isMis
   shown-read (Bracket a) i k =
       record { operand = _; is-shown = refl; one = refl; text = bracket-operand start l s known (i .segment) mask b (i .mask) (i .broadcast) a (i .shown) }
   shown-read (Branch w minus size) i k = bare-read (Branch w minus size) _ (i .bare refl) refl refl (branch-shown start w minus size (i .shown))
+  shown-read (Target w target) i k = bare-read (Target w target) _ (i .bare refl) refl refl (target-shown start w target (i .shown))
 
 pub item-read : {k : Bool} (start : ℕ) (x : Item) → SoundItem k x → isMissing (x .label) ≡ false → isNothing (x .shown) ≡ false → ReadAs start x
 item-read start x i known k = shown-read start (x .label) (x .segment) (x .mask) (x .broadcast) known (x .shown) i k

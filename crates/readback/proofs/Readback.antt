@@ -1,17 +1,20 @@
 -- Demand 3: MASM's reader takes from every printed line exactly what the line shows.
 -- Assumes nothing.
-use mathlib.Core.Path.{_≡_, refl, ap, _∙_}
+use mathlib.Core.Path.{_≡_, refl, sym, ap, _∙_}
 use mathlib.Core.Bool.{Bool, true, false, not, _||_}
 use mathlib.Core.List.{List}
 use Prim.Native.Nat.{ℕ, _<_}
 use native.Mathlib.Omega.{arith}
 use lib.Dec.{T}
 use Rattle.operands.specs.Kinds.{isAbsent}
+use Rattle.operands.specs.Parts.{startingAt}
 use Rattle.operands.specs.declared.Instruction.{Instruction}
 use Rattle.bodies.specs.Decoding.{instructionOf}
 use Rattle.bodies.specs.WellFormed.{WellFormed}
+use Rattle.bodies.specs.Versions.{startOf, recordOf}
 use Rattle.bodies.proofs.Picks.{picked}
 use Rattle.bodies.proofs.Accepted.{accepted}
+use Rattle.bodies.proofs.Versions.{fields-bytes}
 use Rattle.branches.specs.declared.Mode.{Mode}
 use Rattle.names.specs.Among.{isArm}
 use Rattle.names.specs.Opcodes.{opcodeCount}
@@ -26,10 +29,11 @@ use Rattle.arms.proofs.Ordered.{from-the-left}
 use Rattle.arms.proofs.Tails.{tail-after-operand}
 use Rattle.arms.specs.Decorations.{broadcastRefused}
 use Rattle.places.specs.Places.{itemsAt}
+use Rattle.places.proofs.Starts.{left-unstarted}
 use Rattle.lines.specs.Head.{nameOf, headOf}
 use Rattle.lines.specs.Text.{lineBy}
 use Rattle.lines.specs.declared.Name.the-variants.{Opcode, Feni, Fdisi, Fsetpm}
-use Rattle.records.specs.Records.{modeOf, armAt, lineAt, recordText}
+use Rattle.records.specs.Records.{modeOf, fieldsOf, armAt, lineAt, recordText}
 use Rattle.records.specs.declared.Asked.{Asked}
 use Rattle.records.proofs.Judging.{unrefused}
 use Rattle.masm.specs.Lines.{shows, read}
@@ -39,6 +43,7 @@ use Rattle.readback.specs.Meaning.{meaning}
 use Rattle.readback.specs.Printed.{Printed}
 use Rattle.readback.proofs.Sound.{SoundName, Sound, counted}
 use Rattle.readback.proofs.Lines.{sound-line, reads}
+use Rattle.readback.proofs.Starts.{well-started, lacks-unstarted, nothing-unstarted}
 use Rattle.readback.proofs.Arms.{branches, items-sound}
 
 -- ---- Every line of a record that keeps the rules is sound
@@ -66,39 +71,45 @@ counted-from-left i w =
       implication (isAbsent (i .c)) (isAbsent (i .d)) (w .no-c),
     )
 
-line-sound : (mode : Mode) (arm : Arm) (i : Instruction) → WellFormed i → shapeRefused arm i ≡ false → sizeRefused arm i ≡ false → broadcastRefused arm i ≡ false
-    → Sound (branches arm i) (lineBy mode arm (planOf arm i) i)
+-- wherever the record starts
+line-sound : (mode : Mode) (arm : Arm) (start : ℕ) (i : Instruction) → WellFormed i → shapeRefused arm i ≡ false → sizeRefused arm i ≡ false → broadcastRefused arm i ≡ false
+    → Sound (branches arm i) (lineBy mode arm (planOf arm i) (startingAt start i))
 unfolding headOf itemsAt
-line-sound mode arm i w shape size over =
-    let s = items-sound mode arm i w shape over in
+line-sound mode arm start i w shape size over =
+    let plan = planOf arm i in
+    let s = items-sound mode arm start i w shape over in
     record {
       name = name-sound arm (i .opcode) (w .opcode);
       a = s .a;
       b = s .b;
       c = s .c;
       d = s .d;
-      labels = plan-labels-there mode arm i (planOf arm i) (plan-lacking arm i shape ∙ size);
-      ordered = from-the-left mode arm i (counted-from-left i w) shape;
-      ended = tail-after-operand mode arm i;
+      labels = plan-labels-there mode arm (startingAt start i) plan (lacks-unstarted start i plan ∙ plan-lacking arm i shape ∙ size);
+      ordered = left-unstarted mode arm start i plan ∙ from-the-left mode arm i (counted-from-left i w) shape;
+      ended = λ e. tail-after-operand mode arm i (sym (nothing-unstarted start i mode arm (plan .a)) ∙ e);
     }
 
 module _ {asked : Asked} {body : List ℕ} (p : Printed asked body) where
-  -- the record of a printed body keeps the rules
-  pub well : WellFormed (instructionOf body)
-  well = accepted body (p .bytes) (unrefused asked body (p .accepted) .no-field)
+  -- the fields of a printed body keep the rules
+  kept : WellFormed (instructionOf (fieldsOf asked body))
+  kept = accepted (fieldsOf asked body) (fields-bytes (asked .version) body (p .bytes)) (unrefused asked body (p .accepted) .no-field)
+
+  -- and so does its record
+  pub well : WellFormed (recordOf (asked .version) body)
+  well = well-started (startOf (asked .version) body) (instructionOf (fieldsOf asked body)) kept
 
   -- and its line is sound
-  pub sound : Sound (branches (armAt body) (instructionOf body)) (lineAt asked body)
+  pub sound : Sound (branches (armAt (fieldsOf asked body)) (recordOf (asked .version) body)) (lineAt asked body)
   unfolding lineAt
   sound =
       let k = unrefused asked body (p .accepted) in
-      line-sound (modeOf asked) (armAt body) (instructionOf body) well (k .no-shape) (k .no-size) (k .no-broadcast)
+      line-sound (modeOf asked) (armAt (fieldsOf asked body)) (startOf (asked .version) body) (instructionOf (fieldsOf asked body)) kept (k .no-shape) (k .no-size) (k .no-broadcast)
 
   -- ---- The theorems
 
-  -- Of every accepted body, in both modes and from every start, the reader yields exactly what the line shows: prefix words, mnemonic, and
-  -- for each shown operand its label, segment, multiple of each register, displacement, mask and N, immediate, or branch with its width; and
-  -- the tail.
+  -- Of every accepted body, in every mode and version and from every start, the reader yields exactly what the line shows: prefix words,
+  -- mnemonic, and for each shown operand its label, segment, multiple of each register, displacement, mask and N, immediate, branch or target
+  -- with its width; and the tail.
   pub reads-back : (start : ℕ) → read start (recordText asked body) ≡ shows (meaning start (lineAt asked body))
   unfolding recordText
   reads-back start = reads start (lineAt asked body) sound
@@ -108,7 +119,7 @@ module _ {asked : Asked} {body : List ℕ} (p : Printed asked body) where
   unfolding recordText
   one-line = line-unbroken (sound-line 0 (lineAt asked body) sound)
 
--- The text determines what is shown: two accepted bodies, in whatever modes, whose lines are equal show the same.
+-- The text determines what is shown: two accepted bodies, in whatever modes and versions, whose lines are equal show the same.
 pub text-determines : {asked₁ asked₂ : Asked} {body₁ body₂ : List ℕ} → Printed asked₁ body₁ → Printed asked₂ body₂
     → recordText asked₁ body₁ ≡ recordText asked₂ body₂ → (start : ℕ) → meaning start (lineAt asked₁ body₁) ≡ meaning start (lineAt asked₂ body₂)
 text-determines p q e start =

@@ -1,4 +1,4 @@
--- Document 01's lines marked P are read as the table says, and they are those that are proved to be printed.
+-- Document 01's lines marked P, and three of mode 2, are read as the table says, and they are those that are proved to be printed.
 -- Assumes nothing.
 use mathlib.Core.Path.{_≡_, refl}
 use mathlib.Core.List.{map}

@@ -6,7 +6,7 @@ use mathlib.Core.Logic.{_⊎_}
 use Prim.Native.Nat.{ℕ, _^_, _<_, _≤_}
 use Rattle.operands.specs.declared.Label.the-variants.{None}
 use Rattle.operands.specs.declared.Shown.{Shown}
-use Rattle.operands.specs.declared.Shown.the-variants.{Nothing, Name, St, Number, Word, Dword, Bracket, Branch}
+use Rattle.operands.specs.declared.Shown.the-variants.{Nothing, Name, St, Number, Word, Dword, Bracket, Branch, Target}
 use Rattle.operands.specs.declared.Broadcast.{Broadcast}
 use Rattle.operands.specs.declared.Broadcast.the-variants as broadcast
 use Rattle.operands.specs.declared.Tail.the-variants as tail
@@ -35,6 +35,7 @@ SoundShown (Word address) = address < 2 ^ 16
 SoundShown (Dword address) = address < 2 ^ 32
 SoundShown (Bracket address) = AddressKept address
 SoundShown (Branch word minus size) = size < 2 ^ 32
+SoundShown (Target word target) = target < 2 ^ 32
 
 -- an address: a label and a segment stand before nothing else
 abbrev pub isAddress : Shown → Bool
@@ -46,8 +47,9 @@ isAddress (Word address) = true
 isAddress (Dword address) = true
 isAddress (Bracket address) = true
 isAddress (Branch word minus size) = false
+isAddress (Target word target) = false
 
--- a branch
+-- a branch, by `$` and what follows
 abbrev pub isBranchShown : Shown → Bool
 isBranchShown Nothing = false
 isBranchShown (Name reg) = false
@@ -57,6 +59,7 @@ isBranchShown (Word address) = false
 isBranchShown (Dword address) = false
 isBranchShown (Bracket address) = false
 isBranchShown (Branch word minus size) = true
+isBranchShown (Target word target) = false
 
 -- a mask: none, or k0 to k7
 abbrev pub SoundMask : ℕ → Type 0

@@ -25,8 +25,9 @@ use Rattle.bodies.specs.WellFormed.{Kept, WellFormed}
 use Rattle.bodies.proofs.Picks.{both-left, both-right, picked}
 use Rattle.branches.specs.declared.Mode.{Mode}
 use Rattle.names.specs.declared.Arm.{Arm}
+use Rattle.branches.specs.declared.Mode.the-variants as mode
 use Rattle.branches.specs.declared.Mode.the-variants.{Crate, Straight}
-use Rattle.branches.specs.Sums.{signed, shortSum, branchSum, branchShown}
+use Rattle.branches.specs.Sums.{signed, shortSum, branchSum, targetOf, branchShown}
 use Rattle.branches.proofs.Wrapping.{Within, signed-within}
 use Rattle.places.specs.Labels.{labelAt}
 use Rattle.places.specs.Places.{segmentShown, valueShown, maskShown, operandShown, itemAt}
@@ -38,6 +39,7 @@ use Rattle.places.specs.declared.Segment.the-variants.{Hidden, Shown as Own, Un
 use Rattle.places.specs.declared.Place.{Place}
 use Rattle.places.specs.declared.Place.the-variants as place
 use Rattle.readback.proofs.Sound.{Named, SoundShown, SoundMask, SoundBroadcast, Bare, isAddress, isBranchShown, SoundItem}
+use Rattle.readback.proofs.Sums.{modulo-below}
 
 -- ---- What has nothing before it and nothing after it
 
@@ -212,20 +214,28 @@ module _ (value length : ℕ) (l : length ≤ 15) where
   short-fits : (mode : Mode) → natAbs (shortSum mode value length) < 2 ^ 32
   short-fits Crate = omega (arith, fits-signed (2 ^ 7) (signed 8 (value + length)) (signed-within 8 refl (lit< tt) (value + length)))
   short-fits Straight = fits-sum (signed 32 value) length (wide value) l
+  short-fits mode.Target = fits-sum (signed 32 value) length (wide value) l
 
   size-fits : (mode : Mode) (kind : ℕ) → natAbs (branchSum mode kind value length) < 2 ^ 32
   unfolding branchSum
   size-fits mode kind =
       picked (λ z. natAbs z < 2 ^ 32) (eqb kind i8) _ _ (λ e. short-fits mode) (λ e. omega (arith, wide (value + length)))
 
+  -- a target has 32 bits
+  branch-sound : (mode : Mode) (arm : Arm) (kind start : ℕ) → SoundShown (branchShown mode arm kind value length start)
+  unfolding branchShown
+  branch-sound Crate arm kind start = size-fits Crate kind
+  branch-sound Straight arm kind start = size-fits Straight kind
+  branch-sound mode.Target arm kind start = modulo-below (pos start +ℤ pos length +ℤ signed 32 value)
+
 -- ---- Places
 
 -- a register that a place names is one, a place shows a branch only where `branches` says so, and operand 1 only where it is a mask
-abbrev pub placeSound : (branches : Bool) → Instruction → Place → Bool
-placeSound branches i place.Nothing = true
-placeSound branches i (place.Register reg) = isRegisterByte reg
-placeSound branches i place.Branch = branches
-placeSound branches i (place.Operand k label segment short mask b) = maskSound mask (i .b)
+abbrev pub placeSound : (branches : Bool) (second : Operand) → Place → Bool
+placeSound branches second place.Nothing = true
+placeSound branches second (place.Register reg) = isRegisterByte reg
+placeSound branches second place.Branch = branches
+placeSound branches second (place.Operand k label segment short mask b) = maskSound mask second
 
 module _ (mode : Mode) (arm : Arm) (i : Instruction) (w : WellFormed i) where
   operand-kept : (k : ℕ) → Kept (operandIn i k)
@@ -235,13 +245,13 @@ module _ (mode : Mode) (arm : Arm) (i : Instruction) (w : WellFormed i) where
   operand-kept (suc (suc (suc zero))) = w .d
   operand-kept (suc (suc (suc (suc k)))) = tt
 
-  pub sound-place : {c : Bool} (p : Place) → placeSound c i p ≡ true → placeOver16 i p ≡ false → SoundItem c (itemAt mode arm i p)
-  unfolding itemAt branchShown
+  pub sound-place : {c : Bool} (p : Place) → placeSound c (i .b) p ≡ true → placeOver16 i p ≡ false → SoundItem c (itemAt mode arm i p)
+  unfolding itemAt
   sound-place place.Nothing e o = sound-bare shown.Nothing tt refl
   sound-place (place.Register reg) e o = sound-bare (shown.Name reg) (register-named reg e) refl
   sound-place place.Branch e o =
       record {
-        shown = size-fits (immediateOf (i .a)) (i .length) (w .length-most) mode (immediateKind (i .a));
+        shown = branch-sound (immediateOf (i .a)) (i .length) (w .length-most) mode arm (immediateKind (i .a)) (i .start);
         segment = omega arith;
         mask = inl refl;
         broadcast = tt;

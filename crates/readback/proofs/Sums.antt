@@ -9,24 +9,15 @@ use native.Mathlib.Omega.{arith}
 use lib.Dec.{lit<}
 use lib.IntN.{ℤ, pos, negsuc, natAbs, _+ℤ_, +ℤ-comm}
 use Rattle.branches.specs.Sums.{signed, below0, modulo}
+use Rattle.branches.proofs.Modulo.{modulo-plus, modulo-wide}
 use Rattle.branches.proofs.Sums.{signed-low, signed-high, whole-low, whole-back, whole-over}
 use Rattle.readback.specs.Meaning.{bySign}
 use Rattle.readback.specs.Targets.{FitsByte}
-use Rattle.readback.proofs.Modulo.{modulo-plus}
 
 -- an integer by its sign and size
 pub by-sign : (z : ℤ) → bySign (below0 z) (natAbs z) ≡ z
 by-sign (pos n) = refl
 by-sign (negsuc n) = refl
-
--- the lowest 32 bits, read as signed, are the number modulo 2^32
-pub modulo-wide : (n : ℕ) → modulo (signed 32 n) ≡ n % 2 ^ 32
-modulo-wide n =
-    let bound = mod-lt n {m = 2 ^ 32} (lit< tt) in
-    elim (decLt (n % 2 ^ 32) (2 ^ 31)) [
-      | yes h ↦ ap modulo (signed-low 32 n (n % 2 ^ 32) refl h) ∙ omega arith
-      | no h ↦ ap modulo (signed-high 32 n (n % 2 ^ 32) refl (omega arith) bound) ∙ omega arith
-    ]
 
 -- the lowest 8 bits, read as signed
 modulo-low : (n : ℕ) → n % 2 ^ 8 < 2 ^ 7 → modulo (signed 8 n) ≡ n % 2 ^ 8
@@ -87,12 +78,12 @@ sum-within value length v l (inr h) =
 
 -- ---- From the start
 
+pub modulo-below : (z : ℤ) → modulo z < 2 ^ 32
+modulo-below (pos n) = mod-lt n {m = 2 ^ 32} (lit< tt)
+modulo-below (negsuc n) = mod-lt (2 ^ 32 - suc n % 2 ^ 32) {m = 2 ^ 32} (lit< tt)
+
 -- after one and the same start, sums agree modulo 2^32 exactly where they agree by themselves
 module _ (start : ℕ) (y z : ℤ) where
-  modulo-below : (x : ℤ) → modulo x < 2 ^ 32
-  modulo-below (pos n) = mod-lt n {m = 2 ^ 32} (lit< tt)
-  modulo-below (negsuc n) = mod-lt (2 ^ 32 - suc n % 2 ^ 32) {m = 2 ^ 32} (lit< tt)
-
   pub after-start : modulo y ≡ modulo z → modulo (pos start +ℤ y) ≡ modulo (pos start +ℤ z)
   after-start e = modulo-plus start y ∙ ap (λ m. (start + m) % 2 ^ 32) e ∙ sym (modulo-plus start z)
 

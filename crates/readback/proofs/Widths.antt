@@ -1,4 +1,4 @@
--- What the width that MASM's reader yields tells of a printed branch, in both modes.
+-- What the width that MASM's reader yields tells of a printed branch, in every mode.
 -- Assumes nothing.
 use mathlib.Core.Path.{_≡_, refl, sym, subst, _∙_}
 use mathlib.Core.Bool.{Bool, true, false, cond, _&&_, true≢false}
@@ -12,17 +12,18 @@ use lib.Dec.{eqb}
 use Rattle.operands.specs.declared.Instruction.{Instruction}
 use Rattle.operands.specs.Kinds.{i8, i32}
 use Rattle.operands.specs.Parts.{immediateKind}
-use Rattle.bodies.specs.Decoding.{instructionOf}
+use Rattle.bodies.specs.Versions.{recordOf}
 use Rattle.bodies.proofs.Picks.{both-left, both-right}
 use Rattle.branches.specs.Sums.{from128to255}
 use Rattle.records.specs.Records.{recordText}
 use Rattle.records.specs.declared.Asked.{Asked}
 use Rattle.masm.specs.Operands.{Width}
 use Rattle.readback.specs.Printed.{Printed}
-use Rattle.readback.specs.Targets.{BranchRecord, short, long, BranchesTo, mode0Sum, mode0Width, noShortForm, straightWidth, StraightWidth, Mode0Width}
+use Rattle.readback.specs.Targets.{BranchRecord, short, long, BranchesTo, ShowsNumber, mode0Sum, mode0Width, noShortForm, straightWidth, StraightWidth, Mode0Width}
 use Rattle.readback.proofs.Branching.{straight-width-only, mode-0-width-only}
+use Rattle.readback.proofs.Targets.{mode-2-only}
 
--- ---- The widths of the two modes
+-- ---- The widths of the modes
 
 module _ (i : Instruction) where
   -- by whether there is no short form
@@ -78,12 +79,17 @@ module _ (i : Instruction) where
 module _ {asked : Asked} {body : List ℕ} (p : Printed asked body) where
   -- Mode 1: wherever a printed branch record is read to go, CALL and XBEGIN alone have no width, and of the others it is 8 bits exactly for
   -- kind 3 and 32 exactly for kind 5.
-  pub straight-width : asked .mode ≡ 1 → BranchRecord (instructionOf body) → (start : ℕ) {width : Option Width} {target : ℕ}
-      → BranchesTo start (recordText asked body) width target → StraightWidth (instructionOf body) width
+  pub straight-width : asked .mode ≡ 1 → BranchRecord (recordOf (asked .version) body) → (start : ℕ) {width : Option Width} {target : ℕ}
+      → BranchesTo start (recordText asked body) width target → StraightWidth (recordOf (asked .version) body) width
   straight-width m r start b =
-      subst (StraightWidth (instructionOf body)) (straight-width-only p m r start b) (straight-tells (instructionOf body) r)
+      subst (StraightWidth (recordOf (asked .version) body)) (straight-width-only p m r start b) (straight-tells (recordOf (asked .version) body) r)
 
   -- Mode 0: it is 32 bits exactly for kind 5 with a sum of 128 to 255, and there is none else.
-  pub mode-0-width : asked .mode ≡ 0 → BranchRecord (instructionOf body) → (start : ℕ) {width : Option Width} {target : ℕ}
-      → BranchesTo start (recordText asked body) width target → Mode0Width (instructionOf body) width
-  mode-0-width m r start b = subst (Mode0Width (instructionOf body)) (mode-0-width-only p m r start b) (mode-0-tells (instructionOf body))
+  pub mode-0-width : asked .mode ≡ 0 → BranchRecord (recordOf (asked .version) body) → (start : ℕ) {width : Option Width} {target : ℕ}
+      → BranchesTo start (recordText asked body) width target → Mode0Width (recordOf (asked .version) body) width
+  mode-0-width m r start b = subst (Mode0Width (recordOf (asked .version) body)) (mode-0-width-only p m r start b) (mode-0-tells (recordOf (asked .version) body))
+
+  -- Mode 2: whatever number it is read as, the width is that of mode 1.
+  pub mode-2-width : asked .mode ≡ 2 → BranchRecord (recordOf (asked .version) body) → {width : Option Width} {number : ℕ}
+      → ShowsNumber (recordText asked body) width number → StraightWidth (recordOf (asked .version) body) width
+  mode-2-width m r b = subst (StraightWidth (recordOf (asked .version) body)) (mode-2-only p m r b .0) (straight-tells (recordOf (asked .version) body) r)

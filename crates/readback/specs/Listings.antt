@@ -11,7 +11,7 @@ use Rattle.text.specs.Words.{empty}
 use Rattle.lines.specs.declared.Line.{Line}
 use Rattle.answers.specs.Refusals.{answerOf}
 use Rattle.frames.specs.Frames.{isWhole, bodyOf, frameSize, knownVersion}
-use Rattle.records.specs.Records.{refusals, lineAt}
+use Rattle.records.specs.Records.{refusals, lineAt, inVersion}
 use Rattle.records.specs.declared.Asked.{Asked}
 use Rattle.masm.specs.Lines.{Reading, shows, no-instruction, read}
 use Rattle.readback.specs.Meaning.{meaning}
@@ -42,10 +42,11 @@ abbrev pub showsWithin : (k : ℕ) (asked : Asked) (xs : List ℕ) → List (Opt
 showsWithin zero asked xs = []
 showsWithin (suc k) asked xs = cond (empty xs) [] (frontShows asked xs ∷ showsWithin k asked (drop (frameSize xs) xs))
 
--- a listing: one entry for each frame; `; cut` of an empty listing, and `; version`, show nothing
+-- a listing: one entry for each frame, whose record is of the listing's version; `; cut` of an empty listing, and `; version`, show
+-- nothing
 abbrev pub listingShows : (asked : Asked) (listing : List ℕ) → List (Option Line)
 listingShows asked [] = none ∷ []
-listingShows asked (version ∷ xs) = cond (knownVersion version) (showsWithin (length xs) asked xs) (none ∷ [])
+listingShows asked (version ∷ xs) = cond (knownVersion version) (showsWithin (length xs) (inVersion version asked) xs) (none ∷ [])
 
 -- how a line is read that shows this
 abbrev pub readingOf : (start : ℕ) → Option Line → Reading

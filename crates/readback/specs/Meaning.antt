@@ -15,7 +15,7 @@ use Rattle.operands.specs.declared.Label.the-variants as label
 use Rattle.operands.specs.declared.BranchWord.{BranchWord}
 use Rattle.operands.specs.declared.BranchWord.the-variants as word
 use Rattle.operands.specs.declared.Shown.{Shown}
-use Rattle.operands.specs.declared.Shown.the-variants.{Nothing, Name, St, Number, Word, Dword, Bracket, Branch}
+use Rattle.operands.specs.declared.Shown.the-variants.{Nothing, Name, St, Number, Word, Dword, Bracket, Branch, Target}
 use Rattle.operands.specs.declared.Broadcast.{Broadcast}
 use Rattle.operands.specs.declared.Broadcast.the-variants as broadcast
 use Rattle.operands.specs.declared.Tail.{Tail}
@@ -29,7 +29,7 @@ use Rattle.lines.specs.declared.Name.{Name as Mnemonic}
 use Rattle.lines.specs.declared.Name.the-variants.{Opcode, Feni, Fdisi, Fsetpm}
 use Rattle.masm.specs.Operands as masm
 use Rattle.masm.specs.Expressions.{Register}
-use Rattle.masm.specs.Operands.{Operand, Width, register, immediate, branch, address}
+use Rattle.masm.specs.Operands.{Operand, Width, register, immediate, plain, branch, address}
 use Rattle.masm.specs.Lines as lines
 use Rattle.masm.specs.Lines.{Line as Read, Prefix, Xacquire, Xrelease, Lock, Rep, Repne}
 
@@ -79,7 +79,7 @@ labelOf label.Fword = some masm.Fword
 labelOf label.Tbyte = some masm.Tbyte
 labelOf label.Missing = none
 
--- how many bits the word before `$` gives the distance
+-- how many bits the word before `$`, or before a target, gives the distance
 abbrev pub widthOf : BranchWord → Option Width
 widthOf word.None = none
 widthOf word.Short = some 8
@@ -115,9 +115,9 @@ timesOf a r = cond (a .based && eqb r (a .base)) 1 0 + cond (a .indexed && eqb r
 abbrev pub addedOf : Address → ℤ
 addedOf a = cond (a .displaced) (a .disp) (pos 0)
 
--- what an operand of a line shows, or nothing: a register by its byte (`st` is st(0)), an immediate, an address, or a branch to
--- the sum of the start and the signed number after `$`. An absolute is an address that counts no register. A mask and a broadcast are an
--- address's.
+-- what an operand of a line shows, or nothing: a register by its byte (`st` is st(0)), an immediate, an address, a branch to the sum of
+-- the start and the signed number after `$`, or a target, which is a plain number and owes nothing to the start. An absolute is an address
+-- that counts no register. A mask and a broadcast are an address's.
 abbrev pub operandOf : (start : ℕ) (label : Label) (segment mask : ℕ) → Broadcast → Shown → List Operand
 operandOf start label segment mask b Nothing = []
 operandOf start label segment mask b (Name reg) = register reg ∷ []
@@ -127,6 +127,7 @@ operandOf start label segment mask b (Word value) = address (labelOf label) (seg
 operandOf start label segment mask b (Dword value) = address (labelOf label) (segmentOf segment) (λ r. 0) (value % 2 ^ 32) (maskOf mask) (copiesOf b) ∷ []
 operandOf start label segment mask b (Bracket a) = address (labelOf label) (segmentOf segment) (timesOf a) (modulo (addedOf a)) (maskOf mask) (copiesOf b) ∷ []
 operandOf start label segment mask b (Branch word minus size) = branch (widthOf word) (modulo (pos start +ℤ bySign minus size)) ∷ []
+operandOf start label segment mask b (Target word target) = plain (widthOf word) (target % 2 ^ 32) ∷ []
 
 -- an operand of a line with its label, segment, mask and broadcast
 abbrev pub itemOf : (start : ℕ) → Item → List Operand

@@ -12,7 +12,8 @@ use Rattle.operands.specs.declared.Instruction.{Instruction}
 use Rattle.operands.specs.Kinds.{i8, i32}
 use Rattle.branches.specs.Sums.{signed, from128to255, targetOf}
 use Rattle.operands.specs.Parts.{immediateKind, immediateOf}
-use Rattle.masm.specs.Operands.{Width, Operand, register, immediate, branch, address}
+use Rattle.records.specs.declared.Asked.{Asked}
+use Rattle.masm.specs.Operands.{Width, Operand, register, immediate, sized, plain, branch, address}
 use Rattle.masm.specs.Lines.{Line as Read, shows, read}
 
 -- "Relative branches with kind 3 or 5 as operand 0, and XBEGIN with kind 5": JMP to JG are the opcodes below 22, and XBEGIN is 22
@@ -35,9 +36,22 @@ pub record BranchesTo (start : ℕ) (text : List ℕ) (width : Option Width) (ta
   pub reads : read start text ≡ shows line
   pub operand : line .operands ≡ branch width target ∷ []
 
+-- Mode 2: MASM's reader takes the text, whatever start it is given, for one and the same instruction with one operand, this plain number;
+-- `width` is how many bits the word before the number gives the distance, if there is one
+pub record ShowsNumber (text : List ℕ) (width : Option Width) (number : ℕ) : Type 0 where
+  pub line : Read
+  pub reads : (start : ℕ) → read start text ≡ shows line
+  pub operand : line .operands ≡ plain width number ∷ []
+
+-- the same asked in another mode
+abbrev pub inMode : ℕ → Asked → Asked
+inMode mode asked = record { mode = mode; version = asked .version }
+
+-- a branch operand: `$` and what follows, and no plain number
 abbrev pub isTarget : Operand → Bool
 isTarget (register r) = false
 isTarget (immediate n) = false
+isTarget (sized width n) = false
 isTarget (branch width target) = true
 isTarget (address label segment times disp mask copies) = false
 
@@ -63,8 +77,8 @@ mode0Width i = cond (eqb (immediateKind (i .a)) i32 && from128to255 (mode0Sum i)
 abbrev pub noShortForm : Instruction → Bool
 noShortForm i = eqb (i .opcode) 1 || eqb (i .opcode) 22
 
--- the width that mode 1's word gives: "a kind 5 branch prints `near ptr ` at all sums and a kind 3 one `short `, except that CALL and
--- XBEGIN .. print neither"
+-- the width that the word of modes 1 and 2 gives: "a kind 5 branch prints `near ptr ` at all sums and a kind 3 one `short `, except that
+-- CALL and XBEGIN .. print neither"
 abbrev pub straightWidth : Instruction → Option Width
 straightWidth i = cond (noShortForm i) none (cond (eqb (immediateKind (i .a)) i8) (some 8) (some 32))
 
@@ -77,7 +91,7 @@ FitsByte (negsuc n) = suc n ≤ 128
 abbrev pub FitsMode0 : Instruction → Type 0
 FitsMode0 i = (immediateKind (i .a) ≡ i32) ⊎ FitsByte (distanceOf i +ℤ pos (i .length))
 
--- Mode 1: CALL and XBEGIN alone have no width; of the others it is 8 exactly for kind 3 and 32 exactly for kind 5.
+-- Modes 1 and 2: CALL and XBEGIN alone have no width; of the others it is 8 exactly for kind 3 and 32 exactly for kind 5.
 pub record StraightWidth (i : Instruction) (width : Option Width) : Type 0 where
   pub bits-8 : (width ≡ some 8) ↔ ((noShortForm i ≡ false) × (immediateKind (i .a) ≡ i8))
   pub bits-32 : (width ≡ some 32) ↔ ((noShortForm i ≡ false) × (immediateKind (i .a) ≡ i32))

@@ -5,4 +5,5 @@ pub mod InOrder
 pub mod PLines
 pub mod RecordLines
 pub mod OldLines
+pub mod StartUnseen
 pub mod Empty

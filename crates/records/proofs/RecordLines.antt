@@ -12,12 +12,14 @@ use Rattle.answers.proofs.Lines.{refused-most}
 use Rattle.answers.proofs.Unique.{none-or-some}
 use Rattle.bodies.specs.Body.{countOf}
 use Rattle.bodies.specs.Decoding.{instructionOf}
+use Rattle.bodies.specs.Versions.{startOf}
 use Rattle.bodies.proofs.Lengths.{length-least}
+use Rattle.bodies.proofs.Versions.{fields-most}
 use Rattle.arms.specs.Plans.{planOf}
 use Rattle.lines.specs.Text.{lineText, longestLine}
 use Rattle.lines.proofs.Rooms.{line-within}
 use Rattle.records.specs.declared.Asked.{Asked}
-use Rattle.records.specs.Records.{modeOf, armAt, refusals, lineAt, recordText}
+use Rattle.records.specs.Records.{modeOf, fieldsOf, armAt, refusals, lineAt, recordText}
 use Rattle.records.specs.Lines.{recordLine}
 use Rattle.records.proofs.Judging.{unrefused}
 use Rattle.records.proofs.Texts.{text-short, line-refused, line-accepted}
@@ -39,14 +41,15 @@ module _ (asked : Asked) (body : List ℕ) where
       (λ e. omega (arith, length-append (recordText asked body) newline, text-short asked body))
       (λ n. omega (arith, refused-most n))
 
-  text-within : answerOf (refusals asked body) ≡ 0 → length (recordText asked body) + 1 ≤ 9 * (16 + 5 * countOf body)
+  text-within : answerOf (refusals asked body) ≡ 0 → length (recordText asked body) + 1 ≤ 9 * (16 + 5 * countOf (fieldsOf asked body))
   unfolding recordText lineAt
   text-within e =
-      line-within (modeOf asked) (armAt body) (planOf (armAt body) (instructionOf body)) body (plan-in-order (armAt body) (instructionOf body))
+      let f = fieldsOf asked body in
+      line-within (modeOf asked) (armAt f) (planOf (armAt f) (instructionOf f)) (startOf (asked .version) body) f (plan-in-order (armAt f) (instructionOf f))
       (unrefused asked body e .few)
 
   pub record-line-within : length (recordLine asked body) ≤ 9 * (2 + length body)
   record-line-within =
       by-answer (λ (t : List ℕ). length t ≤ 9 * (2 + length body))
-      (λ e. omega (arith, length-append (recordText asked body) newline, text-within e, length-least body (unrefused asked body e .held)))
+      (λ e. omega (arith, length-append (recordText asked body) newline, text-within e, length-least (fieldsOf asked body) (unrefused asked body e .held), fields-most (asked .version) body))
       (λ n. omega (arith, refused-most n))

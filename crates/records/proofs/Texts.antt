@@ -21,13 +21,15 @@ use Rattle.answers.proofs.Unique.{none-or-some}
 use Rattle.answers.proofs.Firsts.{answer-append, answer-before}
 use Rattle.answers.proofs.Outcomes.{gives-refused, gives-as, text-printed}
 use Rattle.bodies.specs.Decoding.{instructionOf}
+use Rattle.bodies.specs.Versions.{recordOf}
+use Rattle.operands.specs.declared.Instruction.{Instruction}
 use Rattle.names.specs.declared.Arm.{Arm}
 use Rattle.places.specs.declared.Plan.{Plan}
 use Rattle.arms.specs.Plans.{planOf}
 use Rattle.branches.specs.declared.Mode.{Mode}
 use Rattle.lines.specs.Text.{lineBy, lineText, longestLine}
 use Rattle.lines.proofs.Short.{line-short}
-use Rattle.records.specs.Records.{modeOf, armAt, refusals, lineAt, recordText, recordOutcome}
+use Rattle.records.specs.Records.{modeOf, fieldsOf, armAt, refusals, lineAt, recordText, recordOutcome}
 use Rattle.records.specs.Lines.{recordLine}
 use Rattle.records.specs.Judged.{textOf}
 use Rattle.records.specs.declared.Asked.{Asked}
@@ -68,12 +70,12 @@ module _ (asked : Asked) (body : List ℕ) where
     ended true = rw e (sym (append-nil (recordText asked body)))
     ended false = line-accepted
 
-    module _ {arm : Arm} {plan : Plan} {mode : Mode} (a : arm ≡ armAt body) (p : plan ≡ planOf (armAt body) (instructionOf body)) (m : mode ≡ modeOf asked) where
-      pub text-is : recordText asked body ≡ lineText (lineBy mode arm plan (instructionOf body))
+    module _ {arm : Arm} {plan : Plan} {mode : Mode} {i : Instruction} (a : arm ≡ armAt (fieldsOf asked body)) (p : plan ≡ planOf (armAt (fieldsOf asked body)) (instructionOf (fieldsOf asked body))) (m : mode ≡ modeOf asked) (r : recordOf (asked .version) body ≡ i) where
+      pub text-is : recordText asked body ≡ lineText (lineBy mode arm plan i)
       unfolding recordText lineAt
-      text-is = rw (a, p, m)
+      text-is = rw (a, p, m, ← r)
 
-      pub accepted-text : (alone : Bool) → textOf alone asked body ≡ lineText (lineBy mode arm plan (instructionOf body)) ++ when (not alone) newline
+      pub accepted-text : (alone : Bool) → textOf alone asked body ≡ lineText (lineBy mode arm plan i) ++ when (not alone) newline
       accepted-text alone = ended alone ∙ ap (λ (t : List ℕ). t ++ when (not alone) newline) text-is
 
     -- its outcome is by the room alone

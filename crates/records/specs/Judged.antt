@@ -1,6 +1,6 @@
 -- What the code makes of a record before there is a buffer, and no promise: the first refusal's number, or the arm and the plan.
 -- Assumes nothing.
-use mathlib.Core.Bool.{Bool, cond}
+use mathlib.Core.Bool.{Bool, false, cond}
 use mathlib.Core.List.{List}
 use mathlib.Core.Path.{_≡_}
 use Prim.Native.Nat.{ℕ}
@@ -11,17 +11,21 @@ use Rattle.bodies.specs.Decoding.{instructionOf}
 use Rattle.arms.specs.Plans.{planOf}
 use Rattle.text.specs.Choice.{when}
 use Rattle.records.specs.Lines.{recordLine}
-use Rattle.records.specs.Records.{armAt, refusals, recordText}
+use Rattle.records.specs.Records.{askedRefused, fieldsOf, armAt, refusals, recordText}
 use Rattle.records.specs.declared.Asked.{Asked}
 use Rattle.records.specs.declared.Judged.{Judged}
 use Rattle.records.specs.declared.Judged.the-variants.{Refused, Accepted}
 
 abbrev pub judgedAs : ℕ → List ℕ → Judged
-judgedAs answer body =
-    cond (eqb answer 0) (Accepted (armAt body) (planOf (armAt body) (instructionOf body))) (Refused answer)
+judgedAs answer f =
+    cond (eqb answer 0) (Accepted (armAt f) (planOf (armAt f) (instructionOf f))) (Refused answer)
 
 unfoldable pub judged : Asked → List ℕ → Judged
-judged asked body = judgedAs (answerOf (refusals asked body)) body
+judged asked body = judgedAs (answerOf (refusals asked body)) (fieldsOf asked body)
+
+-- what is judged of fields: of every body that has them, in every mode and version that is asked rightly
+abbrev pub JudgesFields : List ℕ → Judged → Type 0
+JudgesFields f r = (asked : Asked) (body : List ℕ) → askedRefused asked ≡ false → fieldsOf asked body ≡ f → r ≡ judged asked body
 
 -- alone a record has its text, and none where it is refused
 abbrev pub aloneWith : ℕ → List ℕ → List ℕ

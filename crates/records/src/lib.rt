@@ -5,9 +5,10 @@ pub mod put;
 use names::Arm;
 use places::Plan;
 
-// What is asked of an entry point, besides the bytes.
+// What is asked of an entry point, besides the bytes. A listing says its version itself.
 pub struct Asked {
     pub mode: u32,
+    pub version: u32,
 }
 
 // What a record comes to before there is a buffer: the number of the first refusal, or the arm and the plan of its line.

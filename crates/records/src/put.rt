@@ -11,6 +11,8 @@ use crate::Judged;
 use crate::Placed;
 use crate::judge;
 use answers::PRINTED;
+use bodies::layout::front_of;
+use bodies::layout::rest_at;
 use lines::print::put_line;
 use names::labels;
 use names::opcodes;
@@ -48,6 +50,8 @@ pub fn put_record(
             }
         }
         Judged::Accepted { arm, plan } => {
+            let start = rest_at(asked.version);
+            let front = front_of(asked.version, body);
             let next = put_line(
                 text,
                 at,
@@ -57,7 +61,8 @@ pub fn put_record(
                 register_starts,
                 label_letters,
                 label_starts,
-                body,
+                front,
+                &body[start..],
                 judge::mode_of(asked),
                 arm,
                 plan,

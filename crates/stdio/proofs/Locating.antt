@@ -18,7 +18,7 @@ use Rattle.stdio.proofs.Held.{used-within, left-length}
 
 unused-few : (ended : Bool) (stage : Stage) (held : List ℕ) {next : Next} → next ≡ nextAt ended stage (length held) → next ≡ Read → Unused stage held → length held < longestFrame
 unused-few ended Version held by read unused = omega (arith, ap length unused)
-unused-few ended (Frames number offset) held by read unused = unused .1
+unused-few ended (Frames number offset version) held by read unused = unused .1
 unused-few ended Done held by read unused = absurd (let same : Unknown ≡ Read = sym by ∙ read in let o : _≡_ {A = ℕ} 0 1 = cc in omega (arith, o))
 
 -- where more is to be read, no whole frame is held

@@ -100,7 +100,12 @@ pub struct State {
 fn verdict_at(stage: Stage) -> Verdict {
     match stage {
         Stage::Versions => Verdict::More,
-        Stage::Records { number, named } => Verdict::More,
+        Stage::Records {
+            number,
+            named,
+            first_version,
+            second_version,
+        } => Verdict::More,
         Stage::Done { different } => {
             if different {
                 Verdict::Different
@@ -312,7 +317,7 @@ fn report(verdict: Verdict) {
     }
 }
 
-// The mode that the first word names; one that there is not where it is neither.
+// The mode that the first word names; one that there is not where it is none of the three.
 fn mode_asked() -> u32 {
     let mut word = io::buffer();
     let length = os::arg(1, &mut word);
@@ -322,7 +327,10 @@ fn mode_asked() -> u32 {
     if same_bytes(&word[..length], b"straight") {
         return 1;
     }
-    2
+    if same_bytes(&word[..length], b"target") {
+        return 2;
+    }
+    3
 }
 
 // The file that a word names, open for reading, or a negative number.
@@ -338,7 +346,7 @@ fn open_named(word: usize) -> i32 {
 // By the program's words: the mode, and the names of the first and the second listing.
 pub fn run() {
     let mode = mode_asked();
-    if 1 < mode {
+    if 2 < mode {
         say(b"called wrongly");
         return;
     }
@@ -356,5 +364,5 @@ pub fn run() {
         say(b"the second listing cannot be opened");
         return;
     }
-    report(compare(Asked { mode }, first, second));
+    report(compare(Asked { mode, version: 1 }, first, second));
 }

@@ -349,7 +349,7 @@ fn report(tally: Tally, end: End, cut: u64) {
 // The lines of the listing on standard input. A proved loop has to end, and nothing says that the input does: so the loop counts
 // its turns down, from a number that no run uses up.
 pub fn run(mode: u32) {
-    let asked = Asked { mode };
+    let asked = Asked { mode, version: 1 };
     let name_letters = names::opcodes::letters();
     let name_starts = names::opcodes::starts();
     let register_letters = names::registers::letters();

@@ -185,7 +185,7 @@ fn text_buffer() -> [u8; 262144]
 
 // The text of the listing on standard input. As in the crate's root, the loop counts its turns down from a number that no run uses up.
 pub fn run(mode: u32) {
-    let asked = Asked { mode };
+    let asked = Asked { mode, version: 1 };
     let name_letters = names::opcodes::letters();
     let name_starts = names::opcodes::starts();
     let register_letters = names::registers::letters();

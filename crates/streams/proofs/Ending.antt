@@ -12,15 +12,15 @@ use lib.Seq.{drop-length, drop-append-le, drop-append-add, drop-drop}
 use borrow.Author.Tests.{lt-ltb, le-ltb, ltb-true, ltb-false}
 use Rattle.text.specs.Words.{join}
 use Rattle.text.proofs.Choosing.{cond-by}
-use Rattle.answers.specs.Refusals.{answerOf, length as lengthNumber}
+use Rattle.answers.specs.Refusals.{answerOf}
 use Rattle.answers.specs.Lines.{refusedLine}
 use Rattle.frames.specs.Frames.{bodyLength, isWhole, bodyOf, frameSize, knownVersion}
 use Rattle.frames.proofs.FrameAt.{size-whole}
 use Rattle.bodies.specs.Refusals.{longestBody}
 use Rattle.records.specs.declared.Asked.{Asked}
-use Rattle.records.specs.Records.{refusals}
+use Rattle.records.specs.Records.{inVersion, refusals}
 use Rattle.records.specs.Lines.{recordLine}
-use Rattle.streams.specs.Stream.{Taken, taken, ended, refusedBy, versionStep, frameStep, stepped, Alive, begunOf}
+use Rattle.streams.specs.Stream.{Taken, taken, ended, refusedBy, skipped, versionStep, frameStep, stepped, Alive, begunOf}
 use Rattle.streams.specs.Pass.{Steps, nextAt, Rests, Follows, Passes}
 use Rattle.streams.specs.Pass.Steps.{none as no-step, more as step-more}
 use Rattle.streams.specs.Pass.Follows.{full as is-full, rests}
@@ -85,13 +85,13 @@ end-whole xs h = end-by xs (tail-whole xs h)
 -- how a listing ends, from a stage on
 unfoldable pub endFrom : Stage → List ℕ → Ending
 endFrom Version xs = listingEnd xs
-endFrom Frames xs = framesEnd xs
-endFrom (Skip left size) xs = cond (ltb (length xs) left) (ending Cut (size - left + length xs)) (framesEnd (drop left xs))
+endFrom (Frames version) xs = framesEnd xs
+endFrom (Skip left size version) xs = cond (ltb (length xs) left) (ending Cut (size - left + length xs)) (framesEnd (drop left xs))
 endFrom Done xs = ending Unknown 0
 
-end-skip : (xs : List ℕ) → 2 ≤ length xs → framesEnd xs ≡ endFrom (Skip (bodyLength xs) (2 + bodyLength xs)) (drop 2 xs)
+end-skip : (version : ℕ) (xs : List ℕ) → 2 ≤ length xs → framesEnd xs ≡ endFrom (Skip (bodyLength xs) (2 + bodyLength xs) version) (drop 2 xs)
 unfolding endFrom
-end-skip xs two = cond-by (λ (t : Ending). framesEnd xs ≡ t) (ltb (length (drop 2 xs)) n) part whole
+end-skip version xs two = cond-by (λ (t : Ending). framesEnd xs ≡ t) (ltb (length (drop 2 xs)) n) part whole
   where
     n : ℕ
     n = bodyLength xs
@@ -124,8 +124,8 @@ version-ends (x ∷ xs) =
     cond-by (Ends Version (x ∷ xs)) (knownVersion x) (λ e. ends-using (lit≤ tt) (λ ys. rw e))
     (λ e. ends-using (lit≤ tt) (λ ys. rw e))
 
-module _ (asked : Asked) (held : List ℕ) where
-  wait-ends : length held < 2 + bodyLength held → Ends Frames held (taken Frames 0 [])
+module _ (version : ℕ) (asked : Asked) (held : List ℕ) where
+  wait-ends : length held < 2 + bodyLength held → Ends (Frames version) held (taken (Frames version) 0 [])
   unfolding endFrom
   wait-ends h = record { keeps = λ ys. refl; last = λ z. all-left }
     where
@@ -136,15 +136,15 @@ module _ (asked : Asked) (held : List ℕ) where
       all-left =
           end-by held (tail-part held (part-cut held h)) ∙ ap (ending (cond (ltb 0 (length held)) Cut Whole)) none
 
-  long-ends : 2 ≤ length held → Ends Frames held (taken (Skip (bodyLength held) (2 + bodyLength held)) 2 [])
+  long-ends : 2 ≤ length held → Ends (Frames version) held (taken (Skip (bodyLength held) (2 + bodyLength held) version) 2 [])
   unfolding endFrom
   long-ends two =
       ends-using (lit≤ tt)
       (λ ys.
-      end-skip (held ++ ys) (omega (arith, two, length-append held ys))
-      ∙ ap₂ (λ (n : ℕ) (zs : List ℕ). endFrom (Skip n (2 + n)) zs) (length-stays held ys two) (drop-append-le 2 held ys two))
+      end-skip version (held ++ ys) (omega (arith, two, length-append held ys))
+      ∙ ap₂ (λ (n : ℕ) (zs : List ℕ). endFrom (Skip n (2 + n) version) zs) (length-stays held ys two) (drop-append-le 2 held ys two))
 
-  whole-ends : (refused : ℕ) → 2 + bodyLength held ≤ length held → Ends Frames held (ended (2 + bodyLength held) (recordLine asked (bodyOf held)) refused)
+  whole-ends : (refused : ℕ) → 2 + bodyLength held ≤ length held → Ends (Frames version) held (ended (Frames version) (2 + bodyLength held) (recordLine (inVersion version asked) (bodyOf held)) refused)
   unfolding endFrom
   whole-ends refused h =
       ends-using (omega arith)
@@ -152,36 +152,36 @@ module _ (asked : Asked) (held : List ℕ) where
       end-whole (held ++ ys) (omega (arith, h, length-append held ys, length-stays held ys (omega (arith, h))))
       ∙ ap framesEnd (after-stays held ys h))
 
-  frame-ends : Ends Frames held (frameStep asked held)
+  frame-ends : Ends (Frames version) held (frameStep version asked held)
   frame-ends =
       cond-by E (ltb (length held) 2) (λ e. wait-ends (omega (arith, ltb-true (length held) 2 e)))
       (λ e. let two : 2 ≤ length held = ltb-false (length held) 2 e in
       cond-by E (ltb longestBody n) (λ e. long-ends two)
       (λ e.
       cond-by E (ltb (length held) (2 + n)) (λ e. wait-ends (ltb-true (length held) (2 + n) e))
-      (λ e. whole-ends (refusedBy (answerOf (refusals asked (bodyOf held)))) (ltb-false (length held) (2 + n) e))))
+      (λ e. whole-ends (refusedBy (answerOf (refusals (inVersion version asked) (bodyOf held)))) (ltb-false (length held) (2 + n) e))))
     where
       n : ℕ
       n = bodyLength held
 
       E : Taken → Type 0
-      E = Ends Frames held
+      E = Ends (Frames version) held
 
-  skip-some-ends : (left size : ℕ) → left ≤ size → length held < left → Ends (Skip left size) held (taken (Skip (left - length held) size) (length held) [])
+  skip-some-ends : (left size : ℕ) → left ≤ size → length held < left → Ends (Skip left size version) held (taken (Skip (left - length held) size version) (length held) [])
   unfolding endFrom
   skip-some-ends left size of h = record { keeps = keeps; last = λ z. rw (lt-ltb (length held) left h) }
     where
       n : ℕ
       n = left - length held
 
-      keeps : (ys : List ℕ) → endFrom (Skip left size) (held ++ ys) ≡ endFrom (Skip n size) (drop (length held) held ++ ys)
+      keeps : (ys : List ℕ) → endFrom (Skip left size version) (held ++ ys) ≡ endFrom (Skip n size version) (drop (length held) held ++ ys)
       keeps ys =
           let sum : left ≡ length held + n = omega arith in
           let count : size - (length held + n) + (length held + length ys) ≡ size - n + length ys = omega (arith, of, h, sum) in
-          ap (λ (k : ℕ). endFrom (Skip k size) (held ++ ys)) sum
+          ap (λ (k : ℕ). endFrom (Skip k size version) (held ++ ys)) sum
           ∙ rw (length-append held ys, ltb-shift (length held) (length ys) n, drop-append-add held ys n, drop-length held, count)
 
-  skip-all-ends : (left size : ℕ) → 0 < left → left ≤ length held → Ends (Skip left size) held (ended left (refusedLine lengthNumber) 1)
+  skip-all-ends : (left size : ℕ) → 0 < left → left ≤ length held → Ends (Skip left size version) held (ended (Frames version) left (refusedLine (skipped (inVersion version asked))) 1)
   unfolding endFrom
   skip-all-ends left size some h =
       ends-using some
@@ -191,10 +191,10 @@ module _ (asked : Asked) (held : List ℕ) where
 pub step-ends : (asked : Asked) (stage : Stage) (held : List ℕ) → Alive stage → Ends stage held (stepped asked stage held)
 unfolding stepped endFrom
 step-ends asked Version held alive = version-ends held
-step-ends asked Frames held alive = frame-ends asked held
-step-ends asked (Skip left size) held alive =
-    cond-by (Ends (Skip left size) held) (ltb (length held) left) (λ e. skip-some-ends asked held left size (alive .1) (ltb-true (length held) left e))
-    (λ e. skip-all-ends asked held left size (alive .0) (ltb-false (length held) left e))
+step-ends asked (Frames version) held alive = frame-ends version asked held
+step-ends asked (Skip left size version) held alive =
+    cond-by (Ends (Skip left size version) held) (ltb (length held) left) (λ e. skip-some-ends version asked held left size (alive .1) (ltb-true (length held) left e))
+    (λ e. skip-all-ends version asked held left size (alive .0) (ltb-false (length held) left e))
 step-ends asked Done held alive =
     record {
       keeps = λ ys. refl;
@@ -245,8 +245,8 @@ stop-ends asked true stage held reads {next} alive none go-on r =
       place = λ cut. omega (arith, ap (λ (x : Ending). x .tail) last);
     })
 stop-ends asked false Version held reads alive none go-on r = absurd (go-on (r .next-is))
-stop-ends asked false Frames held reads alive none go-on r = absurd (go-on (r .next-is))
-stop-ends asked false (Skip left size) held reads alive none go-on r = absurd (go-on (r .next-is))
+stop-ends asked false (Frames version) held reads alive none go-on r = absurd (go-on (r .next-is))
+stop-ends asked false (Skip left size version) held reads alive none go-on r = absurd (go-on (r .next-is))
 stop-ends asked false Done held reads {next} alive none go-on r =
     record {
       next = r .next-is;

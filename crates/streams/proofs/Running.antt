@@ -29,7 +29,7 @@ use Rattle.streams.specs.declared.Stage.the-variants.{Version, Frames, S
 use Rattle.streams.specs.declared.Next.{Next}
 use Rattle.streams.specs.declared.Next.the-variants.{Read, Whole, Cut}
 use Rattle.streams.proofs.Stepping.{bounded}
-use Rattle.streams.proofs.Streaming.{Known, step-sound, bytes-drop}
+use Rattle.streams.proofs.Streaming.{step-sound, bytes-drop}
 
 -- steps, and what comes after them
 pub steps-stream : {asked : Asked} {stage now : Stage} {held left says written : List ℕ} {reads : List (List ℕ)} {records refused : ℕ} → Steps asked stage held says now left records refused → Streams asked now left reads written → Streams asked stage held reads (says ++ written)
@@ -90,17 +90,17 @@ pub record Carried (asked : Asked) (stage : Stage) (held says : List ℕ) (now :
   pub small : Bytes (left ++ ys)
   pub alive : Alive now
 
-pub carried : {asked : Asked} {stage : Stage} {held says : List ℕ} {now : Stage} {left : List ℕ} {records refused : ℕ} (ys : List ℕ) → Known asked → Alive stage → Bytes (held ++ ys) → Steps asked stage held says now left records refused → Carried asked stage held says now left ys
-carried ys known alive small no-step = record { said = refl; small = small; alive = alive }
-carried {asked} {stage} {held} ys known alive small (step-more {says = before} {now = now} {left = left} m) =
-    let so-far = carried ys known alive small m in
+pub carried : {asked : Asked} {stage : Stage} {held says : List ℕ} {now : Stage} {left : List ℕ} {records refused : ℕ} (ys : List ℕ) → Alive stage → Bytes (held ++ ys) → Steps asked stage held says now left records refused → Carried asked stage held says now left ys
+carried ys alive small no-step = record { said = refl; small = small; alive = alive }
+carried {asked} {stage} {held} ys alive small (step-more {says = before} {now = now} {left = left} m) =
+    let so-far = carried ys alive small m in
     let t = stepped asked now left in
     let bound = bounded asked now left (so-far .alive) in
     let after = drop-append-le (t .used) left ys (bound .uses) in
     record {
       said =
           so-far .said
-          ∙ ap (λ (u : List ℕ). before ++ u) (step-sound asked now left (so-far .alive) .keeps known ys (so-far .small))
+          ∙ ap (λ (u : List ℕ). before ++ u) (step-sound asked now left (so-far .alive) .keeps ys (so-far .small))
           ∙ sym (append-assoc before (t .says) (remaining asked (t .stage) (drop (t .used) left ++ ys)));
       small = rw (← after) (bytes-drop (left ++ ys) (t .used) (so-far .small));
       alive = bound .alive;
@@ -110,12 +110,12 @@ carried {asked} {stage} {held} ys known alive small (step-more {says = before} {
 last-cut : (stage : Stage) (held : ℕ) → lastLine (nextAt true stage held) ≡ when (cutAt stage held) cutLine
 unfolding lastLine
 last-cut Version held = refl
-last-cut Frames held = go (ltb 0 held)
+last-cut (Frames version) held = go (ltb 0 held)
   where
     go : (b : Bool) → lastLine (cond b Cut Whole) ≡ when b cutLine
     go true = refl
     go false = refl
-last-cut (Skip left size) held = refl
+last-cut (Skip left size version) held = refl
 last-cut Done held = refl
 
 -- the last line is what was still to be said
@@ -127,8 +127,8 @@ last-said asked true stage held reads alive none go-on r =
     ∙ sym (step-sound asked stage held alive .ends (r .unused))
     ∙ ap (remaining asked stage) (sym (append-nil held) ∙ ap (λ (rs : List (List ℕ)). held ++ join rs) (sym (none refl)))
 last-said asked false Version held reads alive none go-on r = absurd (go-on (r .next-is))
-last-said asked false Frames held reads alive none go-on r = absurd (go-on (r .next-is))
-last-said asked false (Skip left size) held reads alive none go-on r = absurd (go-on (r .next-is))
+last-said asked false (Frames version) held reads alive none go-on r = absurd (go-on (r .next-is))
+last-said asked false (Skip left size version) held reads alive none go-on r = absurd (go-on (r .next-is))
 last-said asked false Done held reads alive none go-on r = ap lastLine (r .next-is)
 
 -- a pass, and what comes after it
@@ -136,28 +136,28 @@ module _ {asked : Asked} {stage : Stage} {held : List ℕ} {ended : Bool} {r : P
   silent : {next : Next} → r .next ≡ next → lastLine next ≡ [] → take (r .out) after ≡ p .says
   silent e n = p .text ∙ ap (λ (u : List ℕ). p .says ++ u) (ap lastLine e ∙ n) ∙ append-nil (p .says)
 
-  module _ (ys : List ℕ) (known : Known asked) (alive : Alive stage) (small : Bytes (held ++ ys)) where
+  module _ (ys : List ℕ) (alive : Alive stage) (small : Bytes (held ++ ys)) where
     passed-on : Carried asked stage held (p .says) (r .stage) (drop (r .used) held) ys
-    passed-on = carried ys known alive small (p .steps)
+    passed-on = carried ys alive small (p .steps)
 
     goes-on : {written : List ℕ} → take (r .out) after ≡ p .says → written ≡ remaining asked (r .stage) (drop (r .used) held ++ ys) → take (r .out) after ++ written ≡ remaining asked stage (held ++ ys)
     goes-on says e = rw (says, e) (sym (passed-on .said))
 
-run-from : {asked : Asked} {ended : Bool} {stage : Stage} {held : List ℕ} {reads : List (List ℕ)} {written : List ℕ} {records refused used : ℕ} {final : Stage} {last : Next} → Known asked → Alive stage → (ended ≡ true → reads ≡ []) → Bytes (held ++ join reads) → Runs asked ended stage held reads written records refused used final last → written ≡ remaining asked stage (held ++ join reads)
+run-from : {asked : Asked} {ended : Bool} {stage : Stage} {held : List ℕ} {reads : List (List ℕ)} {written : List ℕ} {records refused used : ℕ} {final : Stage} {last : Next} → Alive stage → (ended ≡ true → reads ≡ []) → Bytes (held ++ join reads) → Runs asked ended stage held reads written records refused used final last → written ≡ remaining asked stage (held ++ join reads)
 unfolding lastLine
-run-from {reads = reads} known alive none small (run-full p e s) =
-    let c = passed-on p (join reads) known alive small in
-    goes-on p (join reads) known alive small (silent p e refl) (run-from known (c .alive) none (c .small) s)
-run-from {held = held} known alive none small (run-more {bytes = bytes} {reads = reads} {r = r} p e s) =
-    let c = passed-on p (bytes ++ join reads) known alive small in
+run-from {reads = reads} alive none small (run-full p e s) =
+    let c = passed-on p (join reads) alive small in
+    goes-on p (join reads) alive small (silent p e refl) (run-from (c .alive) none (c .small) s)
+run-from {held = held} alive none small (run-more {bytes = bytes} {reads = reads} {r = r} p e s) =
+    let c = passed-on p (bytes ++ join reads) alive small in
     let same = append-assoc (drop (r .used) held) bytes (join reads) in
-    goes-on p (bytes ++ join reads) known alive small (silent p e refl)
-    (rw (← same) (run-from known (c .alive) (λ z. absurd (let o : _≡_ {A = ℕ} 0 1 = cc in omega arith)) (rw same (c .small)) s))
-run-from known alive none small (run-none p e s) =
-    let c = passed-on p [] known alive small in
-    goes-on p [] known alive small (silent p e refl) (run-from known (c .alive) (λ z. refl) (c .small) s)
-run-from {asked} {ended} {stage} {held} {reads} known alive none small (stop {r = r} p not-full not-read) =
-    let c = passed-on p (join reads) known alive small in
+    goes-on p (bytes ++ join reads) alive small (silent p e refl)
+    (rw (← same) (run-from (c .alive) (λ z. absurd (let o : _≡_ {A = ℕ} 0 1 = cc in omega arith)) (rw same (c .small)) s))
+run-from alive none small (run-none p e s) =
+    let c = passed-on p [] alive small in
+    goes-on p [] alive small (silent p e refl) (run-from (c .alive) (λ z. refl) (c .small) s)
+run-from {asked} {ended} {stage} {held} {reads} alive none small (stop {r = r} p not-full not-read) =
+    let c = passed-on p (join reads) alive small in
     p .text ∙ ap (λ (u : List ℕ). p .says ++ u) (said (p .follows)) ∙ sym (c .said)
   where
     said : Follows asked ended (r .stage) (drop (r .used) held) (r .used) (r .next) → lastLine (r .next) ≡ remaining asked (r .stage) (drop (r .used) held ++ join reads)
@@ -165,6 +165,6 @@ run-from {asked} {ended} {stage} {held} {reads} known alive none small (stop {r 
     said (rests f) = last-said asked ended (r .stage) (drop (r .used) held) reads (p .alive) none not-read f
 
 -- For every run, over every sequence of reads, what is handed out is the definition's text of the whole.
-pub run-text : (asked : Asked) → Known asked → {reads : List (List ℕ)} {written : List ℕ} {records refused used : ℕ} {final : Stage} {last : Next} → Bytes (join reads) → Runs asked false Version [] reads written records refused used final last → written ≡ listingText asked (join reads)
+pub run-text : (asked : Asked) → {reads : List (List ℕ)} {written : List ℕ} {records refused used : ℕ} {final : Stage} {last : Next} → Bytes (join reads) → Runs asked false Version [] reads written records refused used final last → written ≡ listingText asked (join reads)
 unfolding remaining
-run-text asked known small s = run-from known tt (λ z. absurd (let o : _≡_ {A = ℕ} 0 1 = cc in omega arith)) small s
+run-text asked small s = run-from tt (λ z. absurd (let o : _≡_ {A = ℕ} 0 1 = cc in omega arith)) small s

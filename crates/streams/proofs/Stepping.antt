@@ -1,33 +1,33 @@
 -- The cases of a step, as the code's tests find them, and what bounds it.
 -- Assumes nothing.
-use mathlib.Core.Path.{_≡_, refl, sym, ap, subst, _∙_}
-use mathlib.Core.Bool.{Bool, true, false}
+use mathlib.Core.Path.{_≡_, refl, sym, ap, ap₂, subst, _∙_}
+use mathlib.Core.Bool.{true, false}
 use mathlib.Core.List.{List, [], _∷_}
 use mathlib.Core.Logic.{_⊎_, inl, inr}
 use Prim.Native.Nat.{ℕ, suc, _+_, _-_, _*_, _≤_, _<_}
 use native.Mathlib.Omega.{arith}
-use lib.ListN.{length, getD, take, drop, length-append}
+use lib.ListN.{length, take, drop, length-append}
 use lib.Dec.{eqb, ltb, lit≤}
 use borrow.Author.Tests.{lt-ltb, le-ltb, ltb-true, ltb-false}
 use Rattle.text.proofs.Choosing.{cond-by}
 use Rattle.text.specs.Code.{Put}
 use Rattle.text.proofs.Putting.{put-as}
-use Rattle.answers.specs.Refusals.{answerOf, length as lengthNumber}
+use Rattle.answers.specs.Refusals.{mode as modeNumber, length as lengthNumber, answerOf}
 use Rattle.answers.specs.Lines.{newline, refusedLine}
 use Rattle.answers.proofs.Lines.{refused-most}
 use Rattle.answers.proofs.Unique.{none-or-some}
-use Rattle.frames.specs.Numbers.{word}
+use Rattle.frames.specs.Numbers.{byte, word}
 use Rattle.frames.specs.Frames.{bodyLength, bodyOf, knownVersion}
 use Rattle.bodies.specs.Refusals.{longestBody}
 use Rattle.lines.specs.Text.{longestLine}
 use Rattle.records.specs.declared.Asked.{Asked}
-use Rattle.records.specs.Records.{refusals, recordText}
+use Rattle.records.specs.Records.{askedRefused, inVersion, refusals, recordText}
 use Rattle.records.specs.Lines.{recordLine}
 use Rattle.records.specs.Judged.{textOf}
 use Rattle.records.specs.Judged.{Puts}
 use Rattle.records.proofs.RecordLines.{record-line-short}
 use Rattle.listings.specs.Lines.{versionLine}
-use Rattle.streams.specs.Stream.{Taken, taken, ended, refusedBy, versionStep, frameStep, skipStep, stepped, Alive}
+use Rattle.streams.specs.Stream.{Taken, taken, ended, refusedBy, skipped, versionStep, frameStep, skipStep, stepped, Alive}
 use Rattle.streams.specs.Code.{Took}
 use Rattle.streams.specs.declared.Step.{Step}
 use Rattle.streams.specs.declared.Stage.{Stage}
@@ -63,34 +63,46 @@ pub version-none : (xs : List ℕ) → length xs ≡ 0 → versionStep xs ≡ ta
 version-none [] e = refl
 version-none (x ∷ xs) e = absurd (let h : suc (length xs) ≡ 0 = e in omega arith)
 
-module _ {known : Bool} where
-  pub version-known : (xs : List ℕ) → (length xs ≡ 0 → ⊥) → known ≡ knownVersion (getD xs 0 0) → known ≡ true → versionStep xs ≡ taken Frames 1 []
+module _ {version : ℕ} where
+  pub version-known : (xs : List ℕ) → (length xs ≡ 0 → ⊥) → version ≡ byte xs 0 → knownVersion version ≡ true → versionStep xs ≡ taken (Frames version) 1 []
   version-known [] some e k = absurd (some refl)
-  version-known (x ∷ xs) some e k = rw (sym e ∙ k)
+  version-known (x ∷ xs) some e k = rw (← e, k)
 
-  pub version-unknown : (xs : List ℕ) → (length xs ≡ 0 → ⊥) → known ≡ knownVersion (getD xs 0 0) → known ≡ false → versionStep xs ≡ taken Done 1 versionLine
+  pub version-unknown : (xs : List ℕ) → (length xs ≡ 0 → ⊥) → version ≡ byte xs 0 → knownVersion version ≡ false → versionStep xs ≡ taken Done 1 versionLine
   version-unknown [] some e k = absurd (some refl)
-  version-unknown (x ∷ xs) some e k = rw (sym e ∙ k)
+  version-unknown (x ∷ xs) some e k = rw (← e, k)
 
-pub skip-some : (left size : ℕ) (xs : List ℕ) → length xs < left → skipStep left size xs ≡ taken (Skip (left - length xs) size) (length xs) []
-skip-some left size xs h = rw (lt-ltb (length xs) left h)
+-- the number of a body that is skipped is that of a refusal, of one digit
+skipped-by : (P : ℕ → Type 0) → P modeNumber → P lengthNumber → (asked : Asked) → P (skipped asked)
+skipped-by P m l asked = cond-by P (askedRefused asked) (λ e. m) (λ e. l)
 
-pub skip-all : (left size : ℕ) (xs : List ℕ) → left ≤ length xs → skipStep left size xs ≡ ended left (refusedLine lengthNumber) 1
-skip-all left size xs h = rw (le-ltb (length xs) left h)
+pub skipped-some : (asked : Asked) → 0 < skipped asked
+skipped-some = skipped-by (λ (n : ℕ). 0 < n) (lit≤ tt) (lit≤ tt)
 
-module _ (asked : Asked) (xs : List ℕ) where
-  pub frame-few : length xs < 2 → frameStep asked xs ≡ taken Frames 0 []
+pub skipped-below : (asked : Asked) → skipped asked < 100
+skipped-below = skipped-by (λ (n : ℕ). n < 100) (lit≤ tt) (lit≤ tt)
+
+module _ (left size version : ℕ) (asked : Asked) (xs : List ℕ) where
+  pub skip-some : length xs < left → skipStep left size version asked xs ≡ taken (Skip (left - length xs) size version) (length xs) []
+  skip-some h = rw (lt-ltb (length xs) left h)
+
+  -- with the number that the code found
+  pub skip-all : {told : Asked} {number : ℕ} → told ≡ inVersion version asked → number ≡ skipped told → left ≤ length xs → skipStep left size version asked xs ≡ ended (Frames version) left (refusedLine number) 1
+  skip-all t n h = rw (le-ltb (length xs) left h, n, t)
+
+module _ (version : ℕ) (asked : Asked) (xs : List ℕ) where
+  pub frame-few : length xs < 2 → frameStep version asked xs ≡ taken (Frames version) 0 []
   frame-few h = rw (lt-ltb (length xs) 2 h)
 
   module _ {n : ℕ} (e : n ≡ word xs 0) (two : 2 ≤ length xs) where
-    pub frame-long : longestBody < n → frameStep asked xs ≡ taken (Skip n (2 + n)) 2 []
+    pub frame-long : longestBody < n → frameStep version asked xs ≡ taken (Skip n (2 + n) version) 2 []
     frame-long h = rw (le-ltb (length xs) 2 two, ← e, lt-ltb longestBody n h)
 
     module _ (short : n ≤ longestBody) where
-      pub frame-part : length xs < 2 + n → frameStep asked xs ≡ taken Frames 0 []
+      pub frame-part : length xs < 2 + n → frameStep version asked xs ≡ taken (Frames version) 0 []
       frame-part h = rw (le-ltb (length xs) 2 two, ← e, le-ltb longestBody n short, lt-ltb (length xs) (2 + n) h)
 
-      pub frame-whole : 2 + n ≤ length xs → frameStep asked xs ≡ ended (2 + n) (recordLine asked (take n (drop 2 xs))) (refusedBy (answerOf (refusals asked (take n (drop 2 xs)))))
+      pub frame-whole : 2 + n ≤ length xs → frameStep version asked xs ≡ ended (Frames version) (2 + n) (recordLine (inVersion version asked) (take n (drop 2 xs))) (refusedBy (answerOf (refusals (inVersion version asked) (take n (drop 2 xs)))))
       frame-whole h = rw (le-ltb (length xs) 2 two, ← e, le-ltb longestBody n short, le-ltb (length xs) (2 + n) h)
 
 -- What bounds a step: it uses no more bytes than there are, says no more than a line, and nothing where it uses none; its counts are no
@@ -117,8 +129,8 @@ module _ (xs : List ℕ) where
         few = few;
       }
 
-  ending : (used : ℕ) (says : List ℕ) (refused : ℕ) → 0 < used → used ≤ length xs → length says ≤ longestLine + 1 → refused ≤ 1 → Bounded (ended used says refused) xs
-  ending used says refused some within short once =
+  ending : (version used : ℕ) (says : List ℕ) (refused : ℕ) → 0 < used → used ≤ length xs → length says ≤ longestLine + 1 → refused ≤ 1 → Bounded (ended (Frames version) used says refused) xs
+  ending version used says refused some within short once =
       record {
         uses = within;
         short = short;
@@ -136,7 +148,7 @@ pub bounded : (asked : Asked) (stage : Stage) (xs : List ℕ) → Alive stage �
 unfolding stepped
 bounded asked Version [] alive = quiet [] Version 0 (lit≤ tt) tt (λ z. lit≤ tt)
 bounded asked Version (v ∷ xs) alive =
-    cond-by (λ (t : Taken). Bounded t (v ∷ xs)) (knownVersion v) (λ e. quiet (v ∷ xs) Frames 1 (omega arith) tt (λ z. absurd (omega arith)))
+    cond-by (λ (t : Taken). Bounded t (v ∷ xs)) (knownVersion v) (λ e. quiet (v ∷ xs) (Frames v) 1 (omega arith) tt (λ z. absurd (omega arith)))
     (λ e.
     record {
       uses = omega arith;
@@ -147,35 +159,38 @@ bounded asked Version (v ∷ xs) alive =
       alive = tt;
       few = λ z. absurd (omega arith);
     })
-bounded asked Frames xs alive =
-    cond-by B (ltb (length xs) 2) (λ e. quiet xs Frames 0 (omega arith) tt (λ z. omega (arith, ltb-true (length xs) 2 e)))
+bounded asked (Frames version) xs alive =
+    cond-by B (ltb (length xs) 2) (λ e. quiet xs (Frames version) 0 (omega arith) tt (λ z. omega (arith, ltb-true (length xs) 2 e)))
     (λ (two : ltb (length xs) 2 ≡ false).
-    cond-by B (ltb longestBody n) (λ e. quiet xs (Skip n (2 + n)) 2 (ltb-false (length xs) 2 two) (omega (arith, ltb-true longestBody n e), omega arith) (λ z. absurd (omega arith)))
+    cond-by B (ltb longestBody n) (λ e. quiet xs (Skip n (2 + n) version) 2 (ltb-false (length xs) 2 two) (omega (arith, ltb-true longestBody n e), omega arith) (λ z. absurd (omega arith)))
     (λ (short : ltb longestBody n ≡ false).
-    cond-by B (ltb (length xs) (2 + n)) (λ e. quiet xs Frames 0 (omega arith) tt (λ z. omega (arith, ltb-true (length xs) (2 + n) e, ltb-false longestBody n short)))
+    cond-by B (ltb (length xs) (2 + n)) (λ e. quiet xs (Frames version) 0 (omega arith) tt (λ z. omega (arith, ltb-true (length xs) (2 + n) e, ltb-false longestBody n short)))
     (λ (all : ltb (length xs) (2 + n) ≡ false).
-    ending xs (2 + n) (recordLine asked (bodyOf xs)) (refusedBy (answerOf (refusals asked (bodyOf xs)))) (omega arith) (ltb-false (length xs) (2 + n) all) (record-line-short asked (bodyOf xs)) (refused-once (answerOf (refusals asked (bodyOf xs)))))))
+    ending xs version (2 + n) (recordLine told (bodyOf xs)) (refusedBy (answerOf (refusals told (bodyOf xs)))) (omega arith) (ltb-false (length xs) (2 + n) all) (record-line-short told (bodyOf xs)) (refused-once (answerOf (refusals told (bodyOf xs)))))))
   where
+    told : Asked
+    told = inVersion version asked
+
     n : ℕ
     n = bodyLength xs
 
     B : Taken → Type 0
     B t = Bounded t xs
-bounded asked (Skip left size) xs alive =
-    cond-by (λ (t : Taken). Bounded t xs) (ltb (length xs) left) (λ e. quiet xs (Skip (left - length xs) size) (length xs) (omega arith) (omega (arith, ltb-true (length xs) left e), omega (arith, alive .1)) (λ z. omega (arith, z)))
-    (λ (all : ltb (length xs) left ≡ false). ending xs left (refusedLine lengthNumber) 1 (alive .0) (ltb-false (length xs) left all) (omega (arith, refused-most lengthNumber)) (lit≤ tt))
+bounded asked (Skip left size version) xs alive =
+    cond-by (λ (t : Taken). Bounded t xs) (ltb (length xs) left) (λ e. quiet xs (Skip (left - length xs) size version) (length xs) (omega arith) (omega (arith, ltb-true (length xs) left e), omega (arith, alive .1)) (λ z. omega (arith, z)))
+    (λ (all : ltb (length xs) left ≡ false). ending xs version left (refusedLine (skipped (inVersion version asked))) 1 (alive .0) (ltb-false (length xs) left all) (omega (arith, refused-most (skipped (inVersion version asked)))) (lit≤ tt))
 bounded asked Done xs alive = quiet xs Done (length xs) (omega arith) tt (λ z. omega (arith, z))
 
 -- a whole frame's step, from what was put of its record
-pub whole-took : (asked : Asked) (xs : List ℕ) (k : ℕ) {n number refused : ℕ} {before : List ℕ} {out next : ℕ} {after : List ℕ} → n ≡ word xs 0 → 2 ≤ length xs → n ≤ longestBody → 2 + n ≤ length xs → k ≡ n → Puts false asked (take k (drop 2 xs)) before out number next after → refused ≡ refusedBy number → Took (frameStep asked xs) before out (record { stage = Frames; used = 2 + n; out = next; records = 1; refused = refused }) after
+pub whole-took : (version : ℕ) (asked : Asked) (xs : List ℕ) (k : ℕ) {told : Asked} {n number refused : ℕ} {before : List ℕ} {out next : ℕ} {after : List ℕ} → told ≡ inVersion version asked → n ≡ word xs 0 → 2 ≤ length xs → n ≤ longestBody → 2 + n ≤ length xs → k ≡ n → Puts false told (take k (drop 2 xs)) before out number next after → refused ≡ refusedBy number → Took (frameStep version asked xs) before out (record { stage = Frames version; used = 2 + n; out = next; records = 1; refused = refused }) after
 unfolding textOf
-whole-took asked xs k {n} {number} {refused} e two short all same puts by =
-    took (frame-whole asked xs e two short all ∙ ap (λ (m : ℕ). ended (2 + n) (recordLine asked (take n (drop 2 xs))) m) told)
-    (put-as (ap (λ (j : ℕ). recordLine asked (take j (drop 2 xs))) same) (puts .put))
+whole-took version asked xs k {told} {n} {number} {refused} t e two short all same puts by =
+    took (frame-whole version asked xs e two short all ∙ ap (λ (m : ℕ). ended (Frames version) (2 + n) (recordLine (inVersion version asked) (take n (drop 2 xs))) m) counted)
+    (put-as (ap₂ (λ (a : Asked) (j : ℕ). recordLine a (take j (drop 2 xs))) t same) (puts .put))
   where
-    told : refusedBy (answerOf (refusals asked (take n (drop 2 xs)))) ≡ refused
-    told = rw (← same, ← (puts .answer)) (sym by)
+    counted : refusedBy (answerOf (refusals (inVersion version asked) (take n (drop 2 xs)))) ≡ refused
+    counted = rw (← t, ← same, ← (puts .answer)) (sym by)
 
 -- what is left of a frame is of the frame
-pub skip-within : {stage : Stage} {left size : ℕ} → stage ≡ Skip left size → Alive stage → left ≤ size
+pub skip-within : {stage : Stage} {left size version : ℕ} → stage ≡ Skip left size version → Alive stage → left ≤ size
 skip-within e alive = subst Alive e alive .1

@@ -8,13 +8,13 @@ use lib.Dec.{ltb}
 use lib.ListN.{length, drop}
 use Rattle.text.specs.Code.{Put}
 use Rattle.answers.specs.Lines.{refusedLine}
-use Rattle.answers.specs.Refusals.{length as lengthNumber}
 use Rattle.records.specs.declared.Asked.{Asked}
+use Rattle.records.specs.Records.{inVersion}
 use Rattle.listings.specs.Lines.{cutLine, linesOf, listingText}
 use Rattle.streams.specs.declared.Stage.{Stage}
 use Rattle.streams.specs.declared.Stage.the-variants.{Version, Frames, Skip, Done}
 use Rattle.streams.specs.declared.Step.{Step}
-use Rattle.streams.specs.Stream.{Taken}
+use Rattle.streams.specs.Stream.{Taken, skipped}
 
 -- the code's step is that step
 pub record Took (t : Taken) (before : List ℕ) (out : ℕ) (step : Step) (after : List ℕ) : Type 0 where
@@ -27,6 +27,8 @@ pub record Took (t : Taken) (before : List ℕ) (out : ℕ) (step : Step) (after
 -- what a listing still has to say from a stage on, if all that is to come is xs: the definition, in parts
 unfoldable pub remaining : Asked → Stage → List ℕ → List ℕ
 remaining asked Version xs = listingText asked xs
-remaining asked Frames xs = linesOf asked xs
-remaining asked (Skip left size) xs = cond (ltb (length xs) left) cutLine (refusedLine lengthNumber ++ linesOf asked (drop left xs))
+remaining asked (Frames version) xs = linesOf (inVersion version asked) xs
+remaining asked (Skip left size version) xs =
+    cond (ltb (length xs) left) cutLine
+    (refusedLine (skipped (inVersion version asked)) ++ linesOf (inVersion version asked) (drop left xs))
 remaining asked Done xs = []

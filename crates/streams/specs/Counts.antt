@@ -8,7 +8,7 @@ use lib.ListN.{length, drop}
 use Rattle.answers.specs.Refusals.{answerOf}
 use Rattle.frames.specs.Frames.{isWhole, bodyOf, frameSize, knownVersion}
 use Rattle.records.specs.declared.Asked.{Asked}
-use Rattle.records.specs.Records.{refusals}
+use Rattle.records.specs.Records.{inVersion, refusals}
 use Rattle.streams.specs.Stream.{refusedBy}
 use Rattle.streams.specs.declared.Next.{Next}
 use Rattle.streams.specs.declared.Next.the-variants.{Whole, Cut, Unknown}
@@ -22,17 +22,17 @@ sumWithin f (suc k) xs = cond (isWhole xs) (f (bodyOf xs) + sumWithin f k (drop 
 unfoldable pub sumOf : (List ℕ → ℕ) → List ℕ → ℕ
 sumOf f xs = sumWithin f (length xs) xs
 
--- over a listing: "one version byte, 1, then records"
-unfoldable pub listingSum : (List ℕ → ℕ) → List ℕ → ℕ
+-- over a listing: "one version byte, 1, then records", or document 02's 2; the number of a body may depend on that version
+unfoldable pub listingSum : (ℕ → List ℕ → ℕ) → List ℕ → ℕ
 listingSum f [] = 0
-listingSum f (version ∷ xs) = cond (knownVersion version) (sumOf f xs) 0
+listingSum f (version ∷ xs) = cond (knownVersion version) (sumOf (f version) xs) 0
 
--- how many whole frames a listing has, and how many of them are refused
+-- how many whole frames a listing has, and how many of them are refused; a record is asked for in the listing's version
 abbrev pub recordCount : List ℕ → ℕ
-recordCount = listingSum (λ (body : List ℕ). 1)
+recordCount = listingSum (λ (version : ℕ) (body : List ℕ). 1)
 
 abbrev pub refusedCount : Asked → List ℕ → ℕ
-refusedCount asked = listingSum (λ (body : List ℕ). refusedBy (answerOf (refusals asked body)))
+refusedCount asked = listingSum (λ (version : ℕ) (body : List ℕ). refusedBy (answerOf (refusals (inVersion version asked) body)))
 
 -- how many bytes are left after the whole frames, of at most k
 unfoldable pub tailWithin : ℕ → List ℕ → ℕ

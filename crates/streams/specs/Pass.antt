@@ -25,8 +25,8 @@ pub data Steps (asked : Asked) (stage : Stage) (held : List ℕ) : List ℕ → 
 -- what comes next where no step uses any of the bytes that are held
 abbrev pub nextAt : (ended : Bool) → Stage → ℕ → Next
 nextAt ended Version held = cond ended Cut Read
-nextAt ended Frames held = cond ended (cond (cutAt Frames held) Cut Whole) Read
-nextAt ended (Skip left size) held = cond ended Cut Read
+nextAt ended (Frames version) held = cond ended (cond (cutAt (Frames version) held) Cut Whole) Read
+nextAt ended (Skip left size version) held = cond ended Cut Read
 nextAt ended Done held = Unknown
 
 -- "Missing bytes .. end it with `; cut`": the last line, where there is one

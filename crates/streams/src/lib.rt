@@ -3,11 +3,18 @@ pub mod pass;
 pub mod stream;
 
 // How far a listing has come that arrives in parts: nothing yet, at a frame's start, in a body that is too long for any record
-// (so many bytes of its frame are to come, of so many in all), or past a version byte that is not known.
+// (so many bytes of its frame are to come, of so many in all), or past a version byte that is not known. The listing's version goes
+// with its frames.
 pub enum Stage {
     Version,
-    Frames,
-    Skip { left: usize, size: usize },
+    Frames {
+        version: u32,
+    },
+    Skip {
+        left: usize,
+        size: usize,
+        version: u32,
+    },
     Done,
 }
 

@@ -25,14 +25,18 @@ fn next_at(ended: bool, stage: Stage, held: usize) -> Next
 {
     match stage {
         Stage::Version => { if ended { Next::Cut } else { Next::Read } }
-        Stage::Frames => {
+        Stage::Frames { version } => {
             if ended {
                 if 0 < held { Next::Cut } else { Next::Whole }
             } else {
                 Next::Read
             }
         }
-        Stage::Skip { left, size } => { if ended { Next::Cut } else { Next::Read } }
+        Stage::Skip {
+            left,
+            size,
+            version,
+        } => { if ended { Next::Cut } else { Next::Read } }
         Stage::Done => Next::Unknown,
     }
 }

@@ -1,5 +1,5 @@
 // A listing that arrives in parts: what the listing programs repeat. A frame can be longer than their buffer, but a longer body than
-// any that is right is refused by its length alone, so its bytes are only counted.
+// any that is right is refused by what is asked or by its length alone, so its bytes are only counted.
 ghost use mathlib.Core.Path.{_≡_};
 ghost use Prim.Native.Nat.{_+_, _≤_};
 ghost use lib.ListN.{length};
@@ -8,17 +8,20 @@ ghost use Rattle.names.specs.Opcodes.{MnemonicTable, ArmTable};
 ghost use Rattle.names.specs.Registers.{RegisterTable};
 ghost use Rattle.names.specs.Labels.{LabelTable};
 ghost use Rattle.lines.specs.Text.{longestLine};
-ghost use Rattle.streams.specs.Stream.{versionStep, skipStep, frameStep, stepped, refusedBy, Alive, begunOf};
+ghost use Rattle.streams.specs.Stream.{versionStep, skipStep, frameStep, stepped, skipped, refusedBy, Alive, begunOf};
 ghost use Rattle.streams.specs.Code.{Took};
 use crate::Stage;
 use crate::Step;
 use answers::LENGTH;
+use answers::MODE;
 use answers::PRINTED;
 use bodies::rules::LONGEST_BODY;
 use names::labels;
 use names::opcodes;
 use names::registers;
 use records::Asked;
+use records::judge::asked_refused;
+use records::judge::in_version;
 use records::put::put_record;
 
 fn step_version(input: &[u8], text: &mut [u8], out: usize) -> Step
@@ -34,9 +37,10 @@ fn step_version(input: &[u8], text: &mut [u8], out: usize) -> Step
             refused: 0,
         };
     }
-    if frames::known_version(input[0]) {
+    let version = frames::numbers::byte_at(input, 0);
+    if frames::known_version(version) {
         return Step {
-            stage: Stage::Frames,
+            stage: Stage::Frames { version },
             used: 1,
             out,
             records: 0,
@@ -53,9 +57,24 @@ fn step_version(input: &[u8], text: &mut [u8], out: usize) -> Step
     }
 }
 
-fn step_skip(left: usize, size: usize, input: &[u8], text: &mut [u8], out: usize) -> Step
+// A body that is too long for any record is refused by its length, unless what is asked is refused: that is asked first.
+fn skipped_number(asked: Asked) -> u8
+    ensures { λ r. ⌜ r ≡ skipped asked ⌝ }
+{
+    if asked_refused(asked) { MODE } else { LENGTH }
+}
+
+fn step_skip(
+    left: usize,
+    size: usize,
+    version: u32,
+    input: &[u8],
+    asked: Asked,
+    text: &mut [u8],
+    out: usize,
+) -> Step
     requires { ⌜ out + longestLine + 1 ≤ length (now text) ⌝ }
-    ensures { λ r. ⌜ Took (skipStep left size (now (input .entry))) (now (text .entry)) out r (now (text .exit)) ⌝ }
+    ensures { λ r. ⌜ Took (skipStep left size version asked (now (input .entry))) (now (text .entry)) out r (now (text .exit)) ⌝ }
 {
     let here = input.len();
     if here < left {
@@ -63,6 +82,7 @@ fn step_skip(left: usize, size: usize, input: &[u8], text: &mut [u8], out: usize
             stage: Stage::Skip {
                 left: left - here,
                 size,
+                version,
             },
             used: here,
             out,
@@ -70,9 +90,9 @@ fn step_skip(left: usize, size: usize, input: &[u8], text: &mut [u8], out: usize
             refused: 0,
         };
     }
-    let next = answers::put_refused(text, out, LENGTH);
+    let next = answers::put_refused(text, out, skipped_number(in_version(version, asked)));
     Step {
-        stage: Stage::Frames,
+        stage: Stage::Frames { version },
         used: left,
         out: next,
         records: 1,
@@ -95,6 +115,7 @@ fn step_frame(
     label_letters: &labels::Letters,
     label_starts: &labels::Starts,
     arms: &opcodes::Arms,
+    version: u32,
     input: &[u8],
     asked: Asked,
     text: &mut [u8],
@@ -105,11 +126,11 @@ fn step_frame(
     requires { ⌜ LabelTable (now «label_letters») (now «label_starts») ⌝ }
     requires { ⌜ ArmTable (now arms) ⌝ }
     requires { ⌜ out + longestLine + 1 ≤ length (now text) ⌝ }
-    ensures { λ r. ⌜ Took (frameStep asked (now (input .entry))) (now (text .entry)) out r (now (text .exit)) ⌝ }
+    ensures { λ r. ⌜ Took (frameStep version asked (now (input .entry))) (now (text .entry)) out r (now (text .exit)) ⌝ }
 {
     if input.len() < 2 {
         return Step {
-            stage: Stage::Frames,
+            stage: Stage::Frames { version },
             used: 0,
             out,
             records: 0,
@@ -122,6 +143,7 @@ fn step_frame(
             stage: Stage::Skip {
                 left: size,
                 size: 2 + size,
+                version,
             },
             used: 2,
             out,
@@ -132,7 +154,7 @@ fn step_frame(
     let end = 2 + size;
     if input.len() < end {
         return Step {
-            stage: Stage::Frames,
+            stage: Stage::Frames { version },
             used: 0,
             out,
             records: 0,
@@ -148,13 +170,13 @@ fn step_frame(
         label_starts,
         arms,
         &input[2..end],
-        asked,
+        in_version(version, asked),
         false,
         text,
         out,
     );
     Step {
-        stage: Stage::Frames,
+        stage: Stage::Frames { version },
         used: end,
         out: placed.out,
         records: 1,
@@ -185,7 +207,7 @@ pub fn step(
 {
     match stage {
         Stage::Version => step_version(input, text, out),
-        Stage::Frames => step_frame(
+        Stage::Frames { version } => step_frame(
             name_letters,
             name_starts,
             register_letters,
@@ -193,12 +215,17 @@ pub fn step(
             label_letters,
             label_starts,
             arms,
+            version,
             input,
             asked,
             text,
             out,
         ),
-        Stage::Skip { left, size } => step_skip(left, size, input, text, out),
+        Stage::Skip {
+            left,
+            size,
+            version,
+        } => step_skip(left, size, version, input, asked, text, out),
         Stage::Done => Step {
             stage: Stage::Done,
             used: input.len(),
@@ -216,8 +243,12 @@ pub fn begun(stage: Stage) -> usize
 {
     match stage {
         Stage::Version => 0,
-        Stage::Frames => 0,
-        Stage::Skip { left, size } => size - left,
+        Stage::Frames { version } => 0,
+        Stage::Skip {
+            left,
+            size,
+            version,
+        } => size - left,
         Stage::Done => 0,
     }
 }

@@ -18,6 +18,12 @@ enum-told-2 c = search needs
 whole-sum-requires : tie.Need-whole-sum-requires
 whole-sum-requires c κs = search needs
 
+enum-told-3 : tie.Need-enum-told-3
+enum-told-3 c = search needs
+
+whole-sum-requires-2 : tie.Need-whole-sum-requires-2
+whole-sum-requires-2 c κs = search needs
+
 long-sum-requires : tie.Need-long-sum-requires
 long-sum-requires c κs = search needs
 
@@ -31,7 +37,11 @@ returns-2 c = rw ((c .before .enum-told2) .given .1, eq-eqb _ _ ((c .before .bef
 
 returns-3 : tie.Need-returns-3
 unfolding branchSum
-returns-3 c = rw (ne-eqb _ _ ((c .before .if1) .left)) ((c .long-sum) .ensures)
+returns-3 c = rw ((c .before .enum-told3 .given .1), eq-eqb _ _ ((c .before .before .before .if1) .taken)) ((c .whole-sum2) .ensures)
+
+returns-4 : tie.Need-returns-4
+unfolding branchSum
+returns-4 c = rw (ne-eqb _ _ ((c .before .if1) .left)) ((c .long-sum) .ensures)
 
 pub branch-sum-spec : {M : Type 1} → statement M
 branch-sum-spec =
@@ -41,7 +51,10 @@ branch-sum-spec =
     short-sum-requires
     enum-told-2
     whole-sum-requires
+    enum-told-3
+    whole-sum-requires-2
     long-sum-requires
     returns
     returns-2
-    returns-3)
+    returns-3
+    returns-4)

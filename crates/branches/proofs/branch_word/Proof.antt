@@ -3,7 +3,7 @@
 use mathlib.Core.Path.{sym, ap, _∙_}
 use mathlib.Core.Bool.{cond}
 use Rattle.operands.specs.declared.BranchWord.the-variants.{None, Near}
-use Rattle.branches.proofs.Words.{crate-word, word-none, word-by-kind}
+use Rattle.branches.proofs.Words.{crate-word}
 use borrow.Author.Needs.{needs}
 use Rattle.branches.proofs.branch_word.Statement.{statement}
 use Rattle.branches.proofs.branch_word.Tie as tie
@@ -14,8 +14,14 @@ enum-told c = search needs
 enum-told-2 : tie.Need-enum-told-2
 enum-told-2 c = search needs
 
-straight-word-requires : tie.Need-straight-word-requires
-straight-word-requires c κs = search needs
+enum-told-3 : tie.Need-enum-told-3
+enum-told-3 c = search needs
+
+arm-word-requires : tie.Need-arm-word-requires
+arm-word-requires c κs = search needs
+
+arm-word-requires-2 : tie.Need-arm-word-requires-2
+arm-word-requires-2 c κs = search needs
 
 returns : tie.Need-returns
 returns c =
@@ -28,16 +34,12 @@ returns-2 c =
     λ sum m s. rw (c .before .enum-told .given .1) (sym (crate-word (a .kind) (a .size) (a .minus) sum m s ∙ ap (λ b. cond b Near None) (c .if1 .left)))
 
 returns-3 : tie.Need-returns-3
-returns-3 c =
-    let a = c .before .before .before .args in
-    λ sum m s. sym (word-none (a .arm) (c .before .enum-told2 .given .1) (a .kind) sum (c .match2 .keys1))
+returns-3 c = λ sum m s. rw (c .before .enum-told2 .given .1) (c .arm-word .ensures)
 
 returns-4 : tie.Need-returns-4
-returns-4 c =
-    let a = c .before .before .before .before .args in
-    λ sum m s. c .straight-word .ensures ∙ sym (word-by-kind (a .arm) (c .before .before .enum-told2 .given .1) (a .kind) sum (c .before .match2 .keys2))
+returns-4 c = λ sum m s. rw (c .before .enum-told3 .given .1) (c .arm-word2 .ensures)
 
 pub branch-word-spec : {M : Type 1} → statement M
 branch-word-spec =
     tie.close
-    (tie.spec enum-told enum-told-2 straight-word-requires returns returns-2 returns-3 returns-4)
+    (tie.spec enum-told enum-told-2 arm-word-requires enum-told-3 arm-word-requires-2 returns returns-2 returns-3 returns-4)

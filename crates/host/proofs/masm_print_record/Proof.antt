@@ -33,7 +33,7 @@ unfolding arms opcodes
 print-record-requires c κs = (record { text = (c .before .before .before .before .before .before .before .before .before .before .before .before .before .letters) .ensures; places = (c .before .before .before .before .before .before .before .before .before .before .before .before .starts) .ensures }, (record { text = (c .before .before .before .before .before .before .before .before .before .before .before .letters2) .ensures; places = (c .before .before .before .before .before .before .before .before .before .before .starts2) .ensures }, (record { text = (c .before .before .before .before .before .before .before .before .before .letters3) .ensures; places = (c .before .before .before .before .before .before .before .before .starts3) .ensures }, refl)))
 
 pack-requires : tie.Need-pack-requires
-pack-requires c κs = omega (arith, (c .before .before .print-record) .ensures .length, record-fits (asked ((c .before .before .before .before .before .before .before .before .before .before .before .before .before .before .before .before .before .before .before .args) .mode)) (now ((c .before .before .before .before .before .before .before .before .before .before .before .before .before .before .before .before .before .before .before .args) .body)) (now ((c .before .before .before .before .before .before .before .before .before .before .before .before .before .before .before .before .before .before .before .args) .text)))
+pack-requires c κs = omega (arith, (c .before .before .print-record) .ensures .length, record-fits (asked ((c .before .before .before .before .before .before .before .before .before .before .before .before .before .before .before .before .before .before .before .args) .version) ((c .before .before .before .before .before .before .before .before .before .before .before .before .before .before .before .before .before .before .before .args) .mode)) (now ((c .before .before .before .before .before .before .before .before .before .before .before .before .before .before .before .before .before .before .before .args) .body)) (now ((c .before .before .before .before .before .before .before .before .before .before .before .before .before .before .before .before .before .before .before .args) .text)))
 
 same-length : tie.Need-same-length
 same-length c = search needs

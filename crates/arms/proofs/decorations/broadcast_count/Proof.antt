@@ -1,5 +1,6 @@
 -- `arms::decorations::broadcast_count` meets its contract: the two tables by the bits, else the width of the operand before by the size.
 -- Assumes nothing.
+use Rattle.bodies.specs.Code.{fieldsBy}
 use Rattle.operands.specs.Parts.{widthOf}
 use Rattle.bodies.specs.Decoding.{operandAt, instructionOf}
 use denote.Ref.{now}
@@ -29,16 +30,16 @@ returns-2 c = rw (c .by-bits2 .ensures, c .before .bits2 .ensures, c .before .be
 returns-3 : tie.Need-returns-3
 returns-3 c =
     let a = c .before .before .before .before .args in
-    let i = instructionOf (now (a .body)) in
-    let before = operandAt (now (a .body)) (a .k) in
-    sym (count-by-width (a .arm) i before (c .before .before .match .keys3) ∙ quotient-by-none (widthOf before) (i .size) (size-of (now (a .body)) ∙ sym (c .before .size .ensures) ∙ c .if1 .taken))
+    let i = instructionOf (fieldsBy (a .front) (now (a .rest))) in
+    let before = operandAt (fieldsBy (a .front) (now (a .rest))) (a .k) in
+    sym (count-by-width (a .arm) i before (c .before .before .match .keys3) ∙ quotient-by-none (widthOf before) (i .size) (size-of (fieldsBy (a .front) (now (a .rest))) ∙ sym (c .before .size .ensures) ∙ c .if1 .taken))
 
 returns-4 : tie.Need-returns-4
 returns-4 c =
     let a = c .before .before .before .before .before .args in
-    let i = instructionOf (now (a .body)) in
-    let before = operandAt (now (a .body)) (a .k) in
-    let size = size-of (now (a .body)) ∙ sym (c .before .before .size .ensures) in
+    let i = instructionOf (fieldsBy (a .front) (now (a .rest))) in
+    let before = operandAt (fieldsBy (a .front) (now (a .rest))) (a .k) in
+    let size = size-of (fieldsBy (a .front) (now (a .rest))) ∙ sym (c .before .before .size .ensures) in
     rw (c .width-at .ensures, ← size)
     (sym (count-by-width (a .arm) i before (c .before .before .before .match .keys3) ∙ quotient-by-some (widthOf before) (i .size) (λ e. c .before .if1 .left (sym size ∙ e))))
 

@@ -1,5 +1,6 @@
 -- `arms::plans::own` meets its contract: at each return the arm is known, and at the last it is one that shows its name alone.
 -- Assumes nothing.
+use Rattle.bodies.specs.Code.{fieldsBy}
 use mathlib.Core.List.{[], _∷_}
 use denote.Ref.{now}
 use Rattle.operands.specs.RegisterBytes.{eax, ecx, edx}
@@ -15,7 +16,7 @@ use Rattle.arms.proofs.plans.own.Statement.{statement}
 use Rattle.arms.proofs.plans.own.Tie as tie
 
 returns : tie.Need-returns
-returns c = let i = instructionOf (now ((c .before .before .before .args) .body)) in
+returns c = let i = instructionOf (fieldsBy ((c .before .before .before .args) .front) (now ((c .before .before .before .args) .rest))) in
     rw ((c .one) .ensures, own-plan i (one place.Branch) (Branch ∷ Call ∷ Xbegin ∷ []) ((c .before .before .before .args) .arm) (own-branch i) ((c .before .match) .keys1) ((c .before .before .before .pre) .1 .1))
 
 returns-2 : tie.Need-returns-2
@@ -25,7 +26,7 @@ returns-2 c = rw ((c .two) .ensures, (c .before .plain) .ensures, (c .before .be
 returns-3 : tie.Need-returns-3
 unfolding instructionOf
 returns-3 c = let a = (c .before .before .before .before .before .before .args) in
-    rw ((c .two2) .ensures, (c .before .lsl-source) .ensures, (c .before .before .plain2) .ensures, own-lsl (instructionOf (now (a .body))) (a .arm) ((c .before .before .before .enum-told2) .given .1) ((c .before .before .before .before .before .before .pre) .1 .1))
+    rw ((c .two2) .ensures, (c .before .lsl-source) .ensures, (c .before .before .plain2) .ensures, own-lsl (instructionOf (fieldsBy (a .front) (now (a .rest)))) (a .arm) ((c .before .before .before .enum-told2) .given .1) ((c .before .before .before .before .before .before .pre) .1 .1))
 
 returns-4 : tie.Need-returns-4
 unfolding placesOf
@@ -48,7 +49,7 @@ unfolding placesOf
 returns-8 c = rw ((c .two5) .ensures, (c .before .plain6) .ensures, (c .before .before .scattered2) .ensures, (c .before .before .before .enum-told7) .given .1)
 
 returns-9 : tie.Need-returns-9
-returns-9 c = let i = instructionOf (now ((c .before .before .before .args) .body)) in
+returns-9 c = let i = instructionOf (fieldsBy ((c .before .before .before .args) .front) (now ((c .before .before .before .args) .rest))) in
     rw ((c .three) .ensures, at-group (λ (x : Arm). placesOf x i) (three (named eax) (named ecx) (named edx)) (Monitor ∷ Pvalidate ∷ []) ((c .before .before .before .args) .arm) (own-monitor i) ((c .before .match) .keys9))
 
 returns-10 : tie.Need-returns-10
@@ -96,7 +97,7 @@ unfolding placesOf instructionOf
 returns-20 c = rw ((c .one9) .ensures, (c .before .labelled7) .ensures, (c .before .before .tbyte-label2) .ensures, (c .before .before .before .before .before .before .pre) .1 .0, (c .before .before .before .enum-told18) .given .1)
 
 returns-21 : tie.Need-returns-21
-returns-21 c = let i = instructionOf (now ((c .before .before .before .args) .body)) in
+returns-21 c = let i = instructionOf (fieldsBy ((c .before .before .before .args) .front) (now ((c .before .before .before .args) .rest))) in
     rw ((c .none) .ensures, own-silent i ((c .before .before .before .args) .arm) ((c .before .match) .keys21) ((c .before .before .before .pre) .1 .1))
 
 pub own-spec : {M : Type 1} → statement M

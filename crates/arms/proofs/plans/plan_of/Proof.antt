@@ -1,5 +1,6 @@
 -- `arms::plans::plan_of` meets its contract: a record that takes the general path has that path's plan, with broadcasts and tail where it is extended.
 -- Assumes nothing.
+use Rattle.bodies.specs.Code.{fieldsBy}
 use denote.Ref.{now}
 use Rattle.bodies.specs.Decoding.{instructionOf}
 use Rattle.arms.proofs.Results.{results-equal}
@@ -16,7 +17,7 @@ returns : tie.Need-returns
 unfolding instructionOf
 returns c =
     let a = c .before .before .before .before .before .before .before .before .before .args in
-    let i = instructionOf (now (a .body)) in
+    let i = instructionOf (fieldsBy (a .front) (now (a .rest))) in
     let path = results-equal (c .before .before .before .before .before .before .is-general .ensures) (c .before .before .before .before .before .if1 .taken) in
     rw (c .decorated .ensures, c .before .before .before .general .ensures, c .before .before .before .before .is-mmword .ensures, c .before .before .before .before .before .before .before .size .ensures, general-at-8) (plan-of-general (a .arm) i path)
 
@@ -24,14 +25,14 @@ returns-2 : tie.Need-returns-2
 unfolding instructionOf
 returns-2 c =
     let a = c .before .before .before .before .before .before .before .before .args in
-    let i = instructionOf (now (a .body)) in
+    let i = instructionOf (fieldsBy (a .front) (now (a .rest))) in
     let path = results-equal (c .before .before .before .before .before .is-general .ensures) (c .before .before .before .before .if1 .taken) in
-    rw (c .before .before .general .ensures, c .before .before .before .is-mmword .ensures, c .before .before .before .before .before .before .size .ensures, general-at-8) (plan-of-old (a .arm) (now (a .body)) (results-equal (c .before .is-extended .ensures) (c .if2 .left)) (c .before .before .before .before .before .before .before .before .pre .1) path)
+    rw (c .before .before .general .ensures, c .before .before .before .is-mmword .ensures, c .before .before .before .before .before .before .size .ensures, general-at-8) (plan-of-old (a .arm) (fieldsBy (a .front) (now (a .rest))) (results-equal (c .before .is-extended .ensures) (c .if2 .left)) (c .before .before .before .before .before .before .before .before .pre .1) path)
 
 returns-3 : tie.Need-returns-3
 returns-3 c =
     let a = c .before .before .before .before .before .args in
-    let i = instructionOf (now (a .body)) in
+    let i = instructionOf (fieldsBy (a .front) (now (a .rest))) in
     rw (c .own .ensures) (plan-of-own (a .arm) i (results-equal (c .before .before .is-general .ensures) (c .before .if1 .left)))
 
 pub plan-of-spec : {M : Type 1} → statement M

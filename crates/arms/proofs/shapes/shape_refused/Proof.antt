@@ -1,6 +1,7 @@
 -- `arms::shapes::shape_refused` meets its contract: at each return the arm is known, and the law of that arm says what the whole
 -- sentence of document 01 comes to there. At the last it is one of the arms that refuse nothing.
 -- Assumes nothing.
+use Rattle.bodies.specs.Code.{fieldsBy}
 use mathlib.Core.Bool.{false, not, _||_}
 use mathlib.Core.List.{List, [], _∷_}
 use mathlib.Core.Path.{sym}
@@ -23,7 +24,7 @@ refusing =
 
 returns : tie.Need-returns
 unfolding instructionOf
-returns c = let i = instructionOf (now ((c .before .before .before .args) .body)) in
+returns c = let i = instructionOf (fieldsBy ((c .before .before .before .args) .front) (now ((c .before .before .before .args) .rest))) in
     rw ((c .is-absent-at) .ensures, at-group (λ (x : Arm). shapeRefused x i) (isAbsent (i .a)) (Hreset ∷ Prefetch ∷ Fbstp ∷ []) ((c .before .before .before .args) .arm) (first-there i) ((c .before .match) .keys1))
 
 returns-2 : tie.Need-returns-2
@@ -32,7 +33,7 @@ returns-2 c = rw ((c .lsl-refused) .ensures, (c .before .enum-told) .given .1, a
 
 returns-3 : tie.Need-returns-3
 unfolding instructionOf
-returns-3 c = let i = instructionOf (now ((c .before .before .before .args) .body)) in
+returns-3 c = let i = instructionOf (fieldsBy ((c .before .before .before .args) .front) (now ((c .before .before .before .args) .rest))) in
     rw ((c .is-memory-at) .ensures, at-group (λ (x : Arm). shapeRefused x i) (not (isMemory (i .a))) (Sgdt ∷ Scas ∷ []) ((c .before .before .before .args) .arm) (first-memory i) ((c .before .match) .keys3))
 
 returns-4 : tie.Need-returns-4
@@ -57,7 +58,7 @@ returns-8 c = rw ((c .is-bank-0-at2) .ensures, (c .before .enum-told6) .given .1
 
 returns-9 : tie.Need-returns-9
 unfolding instructionOf
-returns-9 c = let i = instructionOf (now ((c .before .before .before .before .args) .body)) in
+returns-9 c = let i = instructionOf (fieldsBy ((c .before .before .before .before .args) .front) (now ((c .before .before .before .before .args) .rest))) in
     rw ((c .before .is-absent-at5) .ensures, (c .is-absent-at6) .ensures, at-group (λ (x : Arm). shapeRefused x i) (isAbsent (i .a) || isAbsent (i .b)) (Pblendvb ∷ Lea ∷ []) ((c .before .before .before .before .args) .arm) (both-there i) ((c .before .before .match) .keys9))
 
 returns-10 : tie.Need-returns-10
@@ -74,12 +75,12 @@ returns-12 c = rw ((c .fbld-refused) .ensures, (c .before .enum-told9) .given .1
 
 returns-13 : tie.Need-returns-13
 unfolding instructionOf
-returns-13 c = let i = instructionOf (now ((c .before .before .before .args) .body)) in
+returns-13 c = let i = instructionOf (fieldsBy ((c .before .before .before .args) .front) (now ((c .before .before .before .args) .rest))) in
     rw ((c .scatter-refused) .ensures, at-group (λ (x : Arm). shapeRefused x i) (scatterRefused (i .a) (i .b) (i .c)) (ScatterDword ∷ ScatterQword ∷ []) ((c .before .before .before .args) .arm) (scattering i) ((c .before .match) .keys13))
 
 returns-14 : tie.Need-returns-14
 unfolding shapeRefused
-returns-14 c = sym (of-group (λ (x : Arm). shapeRefused x (instructionOf (now ((c .before .before .args) .body)))) false (others refusing) ((c .before .before .args) .arm) tt ((c .match) .keys14))
+returns-14 c = sym (of-group (λ (x : Arm). shapeRefused x (instructionOf (fieldsBy ((c .before .before .args) .front) (now ((c .before .before .args) .rest))))) false (others refusing) ((c .before .before .args) .arm) tt ((c .match) .keys14))
 
 pub shape-refused-spec : {M : Type 1} → statement M
 shape-refused-spec =

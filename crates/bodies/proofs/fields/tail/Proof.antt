@@ -1,5 +1,10 @@
 -- `bodies::fields::tail` meets its contract: the two last bytes are the ones after the operands.
 -- Assumes nothing.
+use mathlib.Core.Path.{_≡_}
+use Prim.Native.Nat.{_-_}
+use native.Mathlib.Omega.{arith}
+use lib.ListN.{length}
+use Rattle.bodies.specs.Code.{fieldsBy, inFields}
 use mathlib.Core.Path.{sym, _∙_}
 use denote.Ref.{now}
 use Rattle.bodies.proofs.Lengths.{tail-extended}
@@ -8,7 +13,7 @@ use Rattle.bodies.proofs.fields.tail.Statement.{statement}
 use Rattle.bodies.proofs.fields.tail.Tie as tie
 
 returns : tie.Need-returns
-returns c = sym (tail-extended (now ((c .before .before .before .before .args) .body)) (c .before .before .before .before .pre) (sym ((c .before .before .is-extended) .ensures) ∙ (c .before .if1) .taken))
+returns c = let a = (c .before .before .before .before .args) in let more : length (fieldsBy (a .front) (now (a .rest))) - 1 ≡ inFields (length (now (a .rest)) - 1) = omega (arith, (c .before .before .before .before .pre) .fixed) in sym (rw more at (tail-extended (fieldsBy ((c .before .before .before .before .args) .front) (now ((c .before .before .before .before .args) .rest))) (c .before .before .before .before .pre) (sym ((c .before .before .is-extended) .ensures) ∙ (c .before .if1) .taken)))
 
 returns-2 : tie.Need-returns-2
 returns-2 c = rw (sym ((c .before .is-extended) .ensures) ∙ (c .if1) .left)

@@ -13,5 +13,5 @@ pub old-field-refused-spec : {M : Type 1} → statement M
 old-field-refused-spec =
     tie.close
     (tie.spec
-    (search needs) (λ c. search needs) (λ c. search needs) (λ c. search needs) (search needs) (search needs) (search needs) (search needs)
+    (search needs) (λ c. search needs) (search needs) (search needs) (search needs) (search needs)
     returns)

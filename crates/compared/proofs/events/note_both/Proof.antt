@@ -11,7 +11,7 @@ same-bytes-requires : tie.Need-same-bytes-requires
 same-bytes-requires c κs = search needs
 
 returns : tie.Need-returns
-returns c = notes-same (c .before .before .before .before .before .args .asked) (c .before .before .before .before .before .args .number) (now (c .before .before .before .before .before .args .first)) (now (c .before .before .before .before .before .args .second)) (sym (c .before .same-bytes .ensures) ∙ c .if1 .taken) (c .before .before .before .before .before .fits .named .fits)
+returns c = notes-same (c .before .before .before .before .before .args .sides) (c .before .before .before .before .before .args .number) (now (c .before .before .before .before .before .args .first)) (now (c .before .before .before .before .before .args .second)) (sym (c .before .same-bytes .ensures) ∙ c .if1 .taken) (c .before .before .before .before .before .fits .named .fits)
 
 put-differing-requires : tie.Need-put-differing-requires
 put-differing-requires c κs = search needs
@@ -23,7 +23,7 @@ same-length : tie.Need-same-length
 same-length c = search needs
 
 returns-2 : tie.Need-returns-2
-returns-2 c = notes-differ (c .before .before .before .before .before .before .before .before .before .before .args .asked) (c .before .before .before .before .before .before .before .before .before .before .args .number) (c .before .before .before .before .before .before .before .before .before .before .fits .number .fits) (now (c .before .before .before .before .before .before .before .before .before .before .args .first)) (now (c .before .before .before .before .before .before .before .before .before .before .args .second)) (sym (c .before .before .before .before .before .before .same-bytes .ensures) ∙ c .before .before .before .before .before .if1 .left) (c .before .before .before .put-differing .ensures) (c .one-more .ensures)
+returns-2 c = notes-differ (c .before .before .before .before .before .before .before .before .before .before .args .sides) (c .before .before .before .before .before .before .before .before .before .before .args .number) (c .before .before .before .before .before .before .before .before .before .before .fits .number .fits) (now (c .before .before .before .before .before .before .before .before .before .before .args .first)) (now (c .before .before .before .before .before .before .before .before .before .before .args .second)) (sym (c .before .before .before .before .before .before .same-bytes .ensures) ∙ c .before .before .before .before .before .if1 .left) (c .before .before .before .put-differing .ensures) (c .one-more .ensures)
 
 pub note-both-spec : {M : Type 1} → statement M
 note-both-spec =

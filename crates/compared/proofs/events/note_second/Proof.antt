@@ -11,7 +11,7 @@ slice-aggregate-put-only : tie.Need-slice-aggregate-put-only
 slice-aggregate-put-only c = search needs
 
 put-only-requires : tie.Need-put-only-requires
-put-only-requires c κs = ((c .before .before .before .before .pre .0), ((c .before .before .before .before .pre .1 .0), ((c .before .before .before .before .pre .1 .1 .0), ((c .before .before .before .before .pre .1 .1 .1 .0), only-room (c .before .before .before .before .args .asked) (c .before .before .before .before .args .number) (c .before .before .before .before .fits .number .fits) secondWords (now (c .before .before .before .before .args .body)) (omega arith) (c .before .before .before .before .pre .1 .1 .1 .1)))))
+put-only-requires c κs = ((c .before .before .before .before .before .pre .0), ((c .before .before .before .before .before .pre .1 .0), ((c .before .before .before .before .before .pre .1 .1 .0), ((c .before .before .before .before .before .pre .1 .1 .1 .0), only-room (c .before .before .before .before .before .args .sides .second) (c .before .before .before .before .before .args .number) (c .before .before .before .before .before .fits .number .fits) secondWords (now (c .before .before .before .before .before .args .body)) (omega arith) (c .before .before .before .before .before .pre .1 .1 .1 .1)))))
 
 one-more-requires : tie.Need-one-more-requires
 one-more-requires c κs = search needs
@@ -20,7 +20,7 @@ same-length : tie.Need-same-length
 same-length c = search needs
 
 returns : tie.Need-returns
-returns c = notes-second (c .before .before .before .before .before .before .before .before .args .asked) (c .before .before .before .before .before .before .before .before .args .number) (c .before .before .before .before .before .before .before .before .fits .number .fits) (now (c .before .before .before .before .before .before .before .before .args .body)) (c .before .before .before .put-only .ensures) (c .one-more .ensures)
+returns c = notes-second (c .before .before .before .before .before .before .before .before .before .args .sides) (c .before .before .before .before .before .before .before .before .before .args .number) (c .before .before .before .before .before .before .before .before .before .fits .number .fits) (now (c .before .before .before .before .before .before .before .before .before .args .body)) (c .before .before .before .put-only .ensures) (c .one-more .ensures)
 
 pub note-second-spec : {M : Type 1} → statement M
 note-second-spec =

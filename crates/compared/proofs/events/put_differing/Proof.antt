@@ -18,17 +18,17 @@ slice-aggregate-line-of : tie.Need-slice-aggregate-line-of
 slice-aggregate-line-of c = search needs
 
 line-of-requires : tie.Need-line-of-requires
-line-of-requires c κs = ((c .before .before .before .before .pre .0), ((c .before .before .before .before .pre .1 .0), ((c .before .before .before .before .pre .1 .1 .0), ((c .before .before .before .before .pre .1 .1 .1 .0), omega arith))))
+line-of-requires c κs = ((c .before .before .before .before .before .before .pre .0), ((c .before .before .before .before .before .before .pre .1 .0), ((c .before .before .before .before .before .before .pre .1 .1 .0), ((c .before .before .before .before .before .before .pre .1 .1 .1 .0), omega arith))))
 
 slice-aggregate-line-of-2 : tie.Need-slice-aggregate-line-of-2
 slice-aggregate-line-of-2 c = search needs
 
 line-of-requires-2 : tie.Need-line-of-requires-2
-line-of-requires-2 c κs = ((c .before .before .before .before .before .before .before .pre .0), ((c .before .before .before .before .before .before .before .pre .1 .0), ((c .before .before .before .before .before .before .before .pre .1 .1 .0), ((c .before .before .before .before .before .before .before .pre .1 .1 .1 .0), omega arith))))
+line-of-requires-2 c κs = ((c .before .before .before .before .before .before .before .before .before .pre .0), ((c .before .before .before .before .before .before .before .before .before .pre .1 .0), ((c .before .before .before .before .before .before .before .before .before .pre .1 .1 .0), ((c .before .before .before .before .before .before .before .before .before .pre .1 .1 .1 .0), omega arith))))
 
 put-number-requires : tie.Need-put-number-requires
 unfolding differingText
-put-number-requires c κs = first (kindText (kindOf (recordLine (c .before .before .before .before .before .before .before .before .before .before .args .asked) (now (c .before .before .before .before .before .before .before .before .before .before .args .first))) (recordLine (c .before .before .before .before .before .before .before .before .before .before .args .asked) (now (c .before .before .before .before .before .before .before .before .before .before .args .second))))) (differing-room (c .before .before .before .before .before .before .before .before .before .before .args .asked) (c .before .before .before .before .before .before .before .before .before .before .args .number) (c .before .before .before .before .before .before .before .before .before .before .fits .number .fits) (now (c .before .before .before .before .before .before .before .before .before .before .args .first)) (now (c .before .before .before .before .before .before .before .before .before .before .args .second)) (c .before .before .before .before .before .before .before .before .before .before .pre .1 .1 .1 .1))
+put-number-requires c κs = first (kindText (kindOf (recordLine (c .before .before .before .before .before .before .before .before .before .before .before .before .args .sides .first) (now (c .before .before .before .before .before .before .before .before .before .before .before .before .args .first))) (recordLine (c .before .before .before .before .before .before .before .before .before .before .before .before .args .sides .second) (now (c .before .before .before .before .before .before .before .before .before .before .before .before .args .second))))) (differing-room (c .before .before .before .before .before .before .before .before .before .before .before .before .args .sides) (c .before .before .before .before .before .before .before .before .before .before .before .before .args .number) (c .before .before .before .before .before .before .before .before .before .before .before .before .fits .number .fits) (now (c .before .before .before .before .before .before .before .before .before .before .before .before .args .first)) (now (c .before .before .before .before .before .before .before .before .before .before .before .before .args .second)) (c .before .before .before .before .before .before .before .before .before .before .before .before .pre .1 .1 .1 .1))
 
 array-share-prefix-first-line : tie.Need-array-share-prefix-first-line
 array-share-prefix-first-line c = search needs
@@ -44,14 +44,14 @@ slice-aggregate-put-lines-2 c = sym (length-take-le _ _ (c .before .before .befo
 
 put-lines-requires : tie.Need-put-lines-requires
 unfolding differingText
-put-lines-requires c κs = room-as (sym (kind-aside (c .before .before .before .before .before .before .before .before .before .before .before .line-of .ensures) (c .before .before .before .before .before .before .before .before .line-of2 .ensures))) (rest (differing-room (c .before .before .before .before .before .before .before .before .before .before .before .before .before .before .before .before .args .asked) (c .before .before .before .before .before .before .before .before .before .before .before .before .before .before .before .before .args .number) (c .before .before .before .before .before .before .before .before .before .before .before .before .before .before .before .before .fits .number .fits) (now (c .before .before .before .before .before .before .before .before .before .before .before .before .before .before .before .before .args .first)) (now (c .before .before .before .before .before .before .before .before .before .before .before .before .before .before .before .before .args .second)) (c .before .before .before .before .before .before .before .before .before .before .before .before .before .before .before .before .pre .1 .1 .1 .1)) (c .before .before .before .before .before .put-number .ensures))
+put-lines-requires c κs = room-as (sym (kind-aside (c .before .before .before .before .before .before .before .before .before .before .before .line-of .ensures) (c .before .before .before .before .before .before .before .before .line-of2 .ensures))) (rest (differing-room (c .before .before .before .before .before .before .before .before .before .before .before .before .before .before .before .before .before .before .args .sides) (c .before .before .before .before .before .before .before .before .before .before .before .before .before .before .before .before .before .before .args .number) (c .before .before .before .before .before .before .before .before .before .before .before .before .before .before .before .before .before .before .fits .number .fits) (now (c .before .before .before .before .before .before .before .before .before .before .before .before .before .before .before .before .before .before .args .first)) (now (c .before .before .before .before .before .before .before .before .before .before .before .before .before .before .before .before .before .before .args .second)) (c .before .before .before .before .before .before .before .before .before .before .before .before .before .before .before .before .before .before .pre .1 .1 .1 .1)) (c .before .before .before .before .before .put-number .ensures))
 
 same-length : tie.Need-same-length
 same-length c = search needs
 
 returns : tie.Need-returns
 unfolding differingText
-returns c = and-then (differing-room (c .before .before .before .before .before .before .before .before .before .before .before .before .before .before .before .before .before .before .before .args .asked) (c .before .before .before .before .before .before .before .before .before .before .before .before .before .before .before .before .before .before .before .args .number) (c .before .before .before .before .before .before .before .before .before .before .before .before .before .before .before .before .before .before .before .fits .number .fits) (now (c .before .before .before .before .before .before .before .before .before .before .before .before .before .before .before .before .before .before .before .args .first)) (now (c .before .before .before .before .before .before .before .before .before .before .before .before .before .before .before .before .before .before .before .args .second)) (c .before .before .before .before .before .before .before .before .before .before .before .before .before .before .before .before .before .before .before .pre .1 .1 .1 .1)) (c .before .before .before .before .before .before .before .before .put-number .ensures) (put-as (kind-aside (c .before .before .before .before .before .before .before .before .before .before .before .before .before .before .line-of .ensures) (c .before .before .before .before .before .before .before .before .before .before .before .line-of2 .ensures)) (c .before .before .put-lines .ensures))
+returns c = and-then (differing-room (c .before .before .before .before .before .before .before .before .before .before .before .before .before .before .before .before .before .before .before .before .before .args .sides) (c .before .before .before .before .before .before .before .before .before .before .before .before .before .before .before .before .before .before .before .before .before .args .number) (c .before .before .before .before .before .before .before .before .before .before .before .before .before .before .before .before .before .before .before .before .before .fits .number .fits) (now (c .before .before .before .before .before .before .before .before .before .before .before .before .before .before .before .before .before .before .before .before .before .args .first)) (now (c .before .before .before .before .before .before .before .before .before .before .before .before .before .before .before .before .before .before .before .before .before .args .second)) (c .before .before .before .before .before .before .before .before .before .before .before .before .before .before .before .before .before .before .before .before .before .pre .1 .1 .1 .1)) (c .before .before .before .before .before .before .before .before .put-number .ensures) (put-as (kind-aside (c .before .before .before .before .before .before .before .before .before .before .before .before .before .before .line-of .ensures) (c .before .before .before .before .before .before .before .before .before .before .before .line-of2 .ensures)) (c .before .before .put-lines .ensures))
 
 pub put-differing-spec : {M : Type 1} → statement M
 put-differing-spec =

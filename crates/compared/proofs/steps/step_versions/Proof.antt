@@ -5,7 +5,7 @@ use native.Mathlib.Omega.{arith}
 use denote.Ref.{now}
 use lib.ListN.{drop}
 use Rattle.compared.proofs.SideTexts.{end-most}
-use Rattle.compared.proofs.Stepping.{steps-first, steps-second, wanting-few, steps-unknown, steps-known}
+use Rattle.compared.proofs.Stepping.{steps-first, steps-second, wanting-few, known-there, steps-unknown, steps-known}
 use borrow.Author.Needs.{needs}
 use Rattle.compared.proofs.steps.step_versions.Statement.{statement}
 use Rattle.compared.proofs.steps.step_versions.Tie as tie
@@ -40,14 +40,20 @@ same-length c = search needs
 returns-3 : tie.Need-returns-3
 returns-3 c = steps-unknown (c .before .before .before .before .before .before .before .before .before .before .before .before .before .before .before .pre .0) (c .before .before .before .before .before .before .before .start-of .ensures) (c .before .before .before .before .before .before .start-of2 .ensures) (c .before .before .before .before .before .not-same .ensures) (sym (c .before .before .before .before .before .before .before .before .before .before .before .wanting-at .ensures) ∙ c .before .before .before .before .before .before .before .before .before .before .if1 .left) (sym (c .before .before .before .before .before .before .before .before .before .wanting-at2 .ensures) ∙ c .before .before .before .before .before .before .before .before .if2 .left) (c .before .before .before .before .if3 .taken) (c .before .before .put-end .ensures)
 
-add-t25 : tie.Need-add-t25
-add-t25 c = search needs
+byte-at-requires : tie.Need-byte-at-requires
+byte-at-requires c κs = known-there (now (c .before .before .before .before .before .before .before .before .before .before .before .args .first)) (now (c .before .before .before .before .before .before .before .before .before .before .before .args .second)) (c .before .before .before .before .before .before .before .before .before .before .before .args .first-at) (c .before .before .before .before .before .before .before .before .before .before .before .args .second-at) (c .before .before .before .start-of .ensures) (c .before .before .start-of2 .ensures) (c .before .not-same .ensures) (c .if3 .left) .0
 
-add-t26 : tie.Need-add-t26
-add-t26 c = search needs
+byte-at-requires-2 : tie.Need-byte-at-requires-2
+byte-at-requires-2 c κs = known-there (now (c .before .before .before .before .before .before .before .before .before .before .before .before .args .first)) (now (c .before .before .before .before .before .before .before .before .before .before .before .before .args .second)) (c .before .before .before .before .before .before .before .before .before .before .before .before .args .first-at) (c .before .before .before .before .before .before .before .before .before .before .before .before .args .second-at) (c .before .before .before .before .start-of .ensures) (c .before .before .before .start-of2 .ensures) (c .before .before .not-same .ensures) (c .before .if3 .left) .1
+
+add-t27 : tie.Need-add-t27
+add-t27 c = search needs
+
+add-t28 : tie.Need-add-t28
+add-t28 c = search needs
 
 returns-4 : tie.Need-returns-4
-returns-4 c = steps-known (c .before .before .before .before .before .before .before .before .before .before .before .pre .0) (c .before .before .before .start-of .ensures) (c .before .before .start-of2 .ensures) (c .before .not-same .ensures) (c .if3 .left)
+returns-4 c = steps-known (c .before .before .before .before .before .before .before .before .before .before .before .before .before .pre .0) (c .before .before .before .before .before .start-of .ensures) (c .before .before .before .before .start-of2 .ensures) (c .before .before .before .not-same .ensures) (c .before .before .if3 .left) (c .before .byte-at .ensures .0) (c .byte-at2 .ensures .0)
 
 pub step-versions-spec : {M : Type 1} → statement M
 step-versions-spec =
@@ -63,6 +69,8 @@ step-versions-spec =
     put-end-requires
     same-length
     returns-3
-    add-t25
-    add-t26
+    byte-at-requires
+    byte-at-requires-2
+    add-t27
+    add-t28
     returns-4)

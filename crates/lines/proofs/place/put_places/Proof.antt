@@ -6,7 +6,7 @@ use native.Mathlib.Omega.{arith}
 use Prim.Native.Nat.{_-_}
 use lib.ListN.{length}
 use Rattle.text.proofs.Putting.{first, put-length, Left, left-all, left-next, left-none, left-as}
-use Rattle.bodies.specs.Decoding.{instructionOf}
+use Rattle.bodies.specs.Code.{fieldsBy, instructionBy}
 use Rattle.places.specs.Places.{itemsAt}
 use Rattle.lines.specs.Text.{itemsText}
 use Rattle.lines.specs.Code.{itemsFrom}
@@ -16,12 +16,12 @@ use Rattle.lines.proofs.place.put_places.Statement.{statement}
 use Rattle.lines.proofs.place.put_places.Tie as tie
 
 abbrev Inv-loop : tie.InvT-loop
-Inv-loop buf₀ at register-letters register-starts label-letters label-starts body mode arm plan k₀ next₀ buf k next =
-    (Left buf₀ at (itemsText (itemsAt mode arm (instructionOf body) plan)) buf next (itemsFrom k (itemsAt mode arm (instructionOf body) plan)))
+Inv-loop buf₀ at register-letters register-starts label-letters label-starts front rest mode arm plan k₀ next₀ buf k next =
+    (Left buf₀ at (itemsText (itemsAt mode arm (instructionBy front rest) plan)) buf next (itemsFrom k (itemsAt mode arm (instructionBy front rest) plan)))
     × (length buf ≡ length buf₀)
 
 abbrev μ-loop : tie.MeasureT-loop
-μ-loop buf₀ at register-letters register-starts label-letters label-starts body mode arm plan k₀ next₀ buf k next = 4 - k
+μ-loop buf₀ at register-letters register-starts label-letters label-starts front rest mode arm plan k₀ next₀ buf k next = 4 - k
 
 loop-holds : tie.Need-loop-holds Inv-loop μ-loop
 loop-holds c = (left-all (c .before .before .pre .1 .1 .1 .1 .1), refl)
@@ -43,7 +43,7 @@ returns c =
     let a = s .args in
     left-none
     (left-as
-    (items-none (a .mode) (a .arm) (instructionOf (now (a .body))) (a .plan) (s .pre .1 .1 .1 .1 .0) (l .k) (t .before .before .loop-test .taken) (t .before .place-at .ensures) (t .shows-something .ensures (a .mode) (a .arm)) (c .if1 .taken))
+    (items-none (a .mode) (a .arm) (instructionBy (a .front) (now (a .rest))) (a .plan) (s .pre .1 .1 .1 .1 .0) (l .k) (t .before .before .loop-test .taken) (t .before .place-at .ensures) (t .shows-something .ensures (a .mode) (a .arm)) (c .if1 .taken))
     (l .inv .0))
 
 put-separator-requires : tie.Need-put-separator-requires Inv-loop μ-loop
@@ -54,7 +54,7 @@ put-separator-requires c κs =
     let a = s .args in
     let one =
     left-as
-    (items-shown (a .mode) (a .arm) (instructionOf (now (a .body))) (a .plan) (l .k) (t .before .before .loop-test .taken) (t .before .place-at .ensures) (t .shows-something .ensures (a .mode) (a .arm)) (c .before .if1 .left))
+    (items-shown (a .mode) (a .arm) (instructionBy (a .front) (now (a .rest))) (a .plan) (l .k) (t .before .before .loop-test .taken) (t .before .place-at .ensures) (t .shows-something .ensures (a .mode) (a .arm)) (c .before .if1 .left))
     (l .inv .0) in
     first _ (one .room)
 
@@ -66,7 +66,7 @@ put-place-requires c κs =
     let a = s .args in
     let one =
     left-as
-    (items-shown (a .mode) (a .arm) (instructionOf (now (a .body))) (a .plan) (l .k) (t .before .before .loop-test .taken) (t .before .place-at .ensures) (t .shows-something .ensures (a .mode) (a .arm)) (c .before .before .before .before .before .if1 .left))
+    (items-shown (a .mode) (a .arm) (instructionBy (a .front) (now (a .rest))) (a .plan) (l .k) (t .before .before .loop-test .taken) (t .before .place-at .ensures) (t .shows-something .ensures (a .mode) (a .arm)) (c .before .before .before .before .before .if1 .left))
     (l .inv .0) in
     (s .pre .0, (s .pre .1 .0, (s .pre .1 .1 .0, (s .pre .1 .1 .1 .0, first _ (left-next one (c .before .before .before .put-separator .ensures) .room)))))
 
@@ -84,7 +84,7 @@ loop-again c =
     let a = s .args in
     let one =
     left-as
-    (items-shown (a .mode) (a .arm) (instructionOf (now (a .body))) (a .plan) (l .k) (t .before .before .loop-test .taken) (t .before .place-at .ensures) (t .shows-something .ensures (a .mode) (a .arm)) (c .before .before .before .before .before .before .before .before .if1 .left))
+    (items-shown (a .mode) (a .arm) (instructionBy (a .front) (now (a .rest))) (a .plan) (l .k) (t .before .before .loop-test .taken) (t .before .place-at .ensures) (t .shows-something .ensures (a .mode) (a .arm)) (c .before .before .before .before .before .before .before .before .if1 .left))
     (l .inv .0) in
     let separated = c .before .before .before .before .before .before .put-separator .ensures in
     let placed = c .before .before .put-place .ensures in
@@ -98,7 +98,7 @@ returns-2 : tie.Need-returns-2 Inv-loop μ-loop
 returns-2 c =
     let l = c .before .loop in
     let a = c .before .before .before .before .args in
-    left-none (left-as (items-end (a .mode) (a .arm) (instructionOf (now (a .body))) (a .plan) (l .k) (c .loop-test .left)) (l .inv .0))
+    left-none (left-as (items-end (a .mode) (a .arm) (instructionBy (a .front) (now (a .rest))) (a .plan) (l .k) (c .loop-test .left)) (l .inv .0))
 
 pub put-places-spec : {M : Type 1} → statement M
 put-places-spec =

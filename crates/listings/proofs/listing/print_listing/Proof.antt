@@ -28,21 +28,24 @@ returns-3 : tie.Need-returns-3
 returns-3 c = let a = (c .before .before .before .before .before .before .before .before .before .before .before .args) in
     gives-as (listing-text (a .asked) (now (a .listing)) (now (a .text)) ((c .before .before .before .before .before .before .before .if1) .left) ((c .before .before .before .before .before .before .if2) .left) (text-empty (a .asked) (now (a .listing)) ((c .before .before .before .before .before .if3) .taken))) ((c .before .before .print-text) .ensures)
 
-shared-slice-read-known-version : tie.Need-shared-slice-read-known-version
-shared-slice-read-known-version c = search needs
+byte-at-requires : tie.Need-byte-at-requires
+byte-at-requires c κs = search needs
 
 known-version-requires : tie.Need-known-version-requires
 known-version-requires c κs = search needs
 
+in-version-requires : tie.Need-in-version-requires
+in-version-requires c κs = search needs
+
 print-lines-requires : tie.Need-print-lines-requires
-print-lines-requires c κs = ((c .before .before .before .before .before .before .before .before .before .before .pre) .0, ((c .before .before .before .before .before .before .before .before .before .before .pre) .1 .0, ((c .before .before .before .before .before .before .before .before .before .before .pre) .1 .1 .0, ((c .before .before .before .before .before .before .before .before .before .before .pre) .1 .1 .1, (omega (arith, (c .before .before .before .before .if3) .left), (c .before .before .before .before .before .if2) .left)))))
+print-lines-requires c κs = ((c .before .before .before .before .before .before .before .before .before .before .before .pre) .0, ((c .before .before .before .before .before .before .before .before .before .before .before .pre) .1 .0, ((c .before .before .before .before .before .before .before .before .before .before .before .pre) .1 .1 .0, ((c .before .before .before .before .before .before .before .before .before .before .before .pre) .1 .1 .1, (omega (arith, (c .before .before .before .before .before .if3) .left), (c .before .before .before .before .before .before .if2) .left)))))
 
 same-length-2 : tie.Need-same-length-2
 same-length-2 c = search needs
 
 returns-4 : tie.Need-returns-4
-returns-4 c = let a = (c .before .before .before .before .before .before .before .before .before .before .before .before .before .args) in
-    gives-as (listing-text (a .asked) (now (a .listing)) (now (a .text)) ((c .before .before .before .before .before .before .before .before .before .if1) .left) ((c .before .before .before .before .before .before .before .before .if2) .left) (text-known (a .asked) (now (a .listing)) ((c .before .before .before .before .before .before .before .if3) .left) (sym ((c .before .before .before .before .before .known-version) .ensures) ∙ (c .before .before .before .before .if4) .taken))) ((c .before .before .print-lines) .ensures)
+returns-4 c = let a = (c .before .before .before .before .before .before .before .before .before .before .before .before .before .before .args) in
+    gives-as (listing-text (a .asked) (now (a .listing)) (now (a .text)) ((c .before .before .before .before .before .before .before .before .before .before .if1) .left) ((c .before .before .before .before .before .before .before .before .before .if2) .left) (text-known (a .asked) (now (a .listing)) ((c .before .before .before .before .before .before .before .before .if3) .left) ((c .before .before .before .before .before .before .before .byte-at) .ensures .0) (sym ((c .before .before .before .before .before .before .known-version) .ensures) ∙ (c .before .before .before .before .before .if4) .taken) ((c .before .before .before .before .in-version) .ensures))) ((c .before .before .print-lines) .ensures)
 
 slice-aggregate-print-text-2 : tie.Need-slice-aggregate-print-text-2
 slice-aggregate-print-text-2 c = search needs
@@ -55,7 +58,7 @@ same-length-3 c = search needs
 
 returns-5 : tie.Need-returns-5
 returns-5 c = let a = (c .before .before .before .before .before .before .before .before .before .before .before .before .before .before .args) in
-    gives-as (listing-text (a .asked) (now (a .listing)) (now (a .text)) ((c .before .before .before .before .before .before .before .before .before .before .if1) .left) ((c .before .before .before .before .before .before .before .before .before .if2) .left) (text-unknown (a .asked) (now (a .listing)) ((c .before .before .before .before .before .before .before .before .if3) .left) (sym ((c .before .before .before .before .before .before .known-version) .ensures) ∙ (c .before .before .before .before .before .if4) .left))) ((c .before .before .print-text2) .ensures)
+    gives-as (listing-text (a .asked) (now (a .listing)) (now (a .text)) ((c .before .before .before .before .before .before .before .before .before .before .if1) .left) ((c .before .before .before .before .before .before .before .before .before .if2) .left) (text-unknown (a .asked) (now (a .listing)) ((c .before .before .before .before .before .before .before .before .if3) .left) ((c .before .before .before .before .before .before .before .byte-at) .ensures .0) (sym ((c .before .before .before .before .before .before .known-version) .ensures) ∙ (c .before .before .before .before .before .if4) .left))) ((c .before .before .print-text2) .ensures)
 
 pub print-listing-spec : {M : Type 1} → statement M
 print-listing-spec =
@@ -67,8 +70,9 @@ print-listing-spec =
     print-text-requires
     same-length
     returns-3
-    shared-slice-read-known-version
+    byte-at-requires
     known-version-requires
+    in-version-requires
     print-lines-requires
     same-length-2
     returns-4

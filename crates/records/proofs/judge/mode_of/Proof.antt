@@ -1,4 +1,4 @@
--- `records::judge::mode_of` meets its contract, by its one test.
+-- `records::judge::mode_of` meets its contract, by its two tests.
 -- Assumes nothing.
 use borrow.Author.Tests.{eq-eqb, ne-eqb}
 use Rattle.records.proofs.judge.mode_of.Statement.{statement}
@@ -8,7 +8,10 @@ returns : tie.Need-returns
 returns c = rw (eq-eqb _ _ ((c .if1) .taken))
 
 returns-2 : tie.Need-returns-2
-returns-2 c = rw (ne-eqb _ _ ((c .if1) .left))
+returns-2 c = rw (ne-eqb _ _ ((c .before .before .if1) .left), eq-eqb _ _ ((c .if2) .taken))
+
+returns-3 : tie.Need-returns-3
+returns-3 c = rw (ne-eqb _ _ ((c .before .before .if1) .left), ne-eqb _ _ ((c .if2) .left))
 
 pub mode-of-spec : {M : Type 1} → statement M
-mode-of-spec = tie.close (tie.spec returns returns-2)
+mode-of-spec = tie.close (tie.spec returns returns-2 returns-3)

@@ -14,8 +14,8 @@ enum-told-2 c = search needs
 enum-known-stage : tie.Need-enum-known-stage
 enum-known-stage c = search needs
 
-enum-told-3 : tie.Need-enum-told-3
-enum-told-3 c = search needs
+enum-known-stage-2 : tie.Need-enum-known-stage-2
+enum-known-stage-2 c = search needs
 
 returns : tie.Need-returns
 returns c = search needs
@@ -24,10 +24,10 @@ returns-2 : tie.Need-returns-2
 returns-2 c = search needs
 
 returns-3 : tie.Need-returns-3
-returns-3 c = rw ((c .before .before .enum-told2) .given .1, (c .before .if2) .taken, lt-ltb 0 (c .before .before .before .before .args .held) (c .if3 .taken))
+returns-3 c = rw ((c .before .before .before .stage) .given .1, (c .before .if2) .taken, lt-ltb 0 (c .before .before .before .before .before .args .held) (c .if3 .taken))
 
 returns-4 : tie.Need-returns-4
-returns-4 c = rw ((c .before .before .enum-told2) .given .1, (c .before .if2) .taken, le-ltb 0 (c .before .before .before .before .args .held) (c .if3 .left))
+returns-4 c = rw ((c .before .before .before .stage) .given .1, (c .before .if2) .taken, le-ltb 0 (c .before .before .before .before .before .args .held) (c .if3 .left))
 
 returns-5 : tie.Need-returns-5
 returns-5 c = search needs
@@ -46,9 +46,9 @@ next-at-spec =
     tie.close
     (tie.spec
     enum-told
-    enum-told-2
     enum-known-stage
-    enum-told-3
+    enum-known-stage-2
+    enum-told-2
     returns
     returns-2
     returns-3

@@ -15,11 +15,11 @@ enum-told-2 c = search needs
 enum-known-stage : tie.Need-enum-known-stage
 enum-known-stage c = search needs
 
-sub-result : tie.Need-sub-result
-sub-result c = omega (arith, skip-within (c .before .stage .given .1) (c .before .before .before .pre))
+enum-known-stage-2 : tie.Need-enum-known-stage-2
+enum-known-stage-2 c = search needs
 
-enum-told-3 : tie.Need-enum-told-3
-enum-told-3 c = search needs
+sub-result : tie.Need-sub-result
+sub-result c = omega (arith, skip-within (c .before .stage2 .given .1) (c .before .before .before .pre))
 
 returns : tie.Need-returns
 returns c = search needs
@@ -28,7 +28,7 @@ returns-2 : tie.Need-returns-2
 returns-2 c = search needs
 
 returns-3 : tie.Need-returns-3
-returns-3 c = rw (c .before .stage .given .1)
+returns-3 c = rw (c .before .stage2 .given .1)
 
 returns-4 : tie.Need-returns-4
 returns-4 c = search needs
@@ -38,10 +38,10 @@ begun-spec =
     tie.close
     (tie.spec
     enum-told
-    enum-told-2
     enum-known-stage
+    enum-known-stage-2
     sub-result
-    enum-told-3
+    enum-told-2
     returns
     returns-2
     returns-3

@@ -22,14 +22,14 @@ enum-told-2 c = search needs
 step-frame-requires : tie.Need-step-frame-requires
 step-frame-requires c κs = search needs
 
+enum-known-stage-2 : tie.Need-enum-known-stage-2
+enum-known-stage-2 c = search needs
+
 enum-known-stage : tie.Need-enum-known-stage
 enum-known-stage c = search needs
 
 step-skip-requires : tie.Need-step-skip-requires
 step-skip-requires c κs = search needs
-
-enum-told-3 : tie.Need-enum-told-3
-enum-told-3 c = search needs
 
 same-length : tie.Need-same-length
 same-length c = search needs
@@ -43,18 +43,18 @@ same-length-2 c = search needs
 
 returns-2 : tie.Need-returns-2
 unfolding stepped
-returns-2 c = took-as (sym (ap (λ (s : Stage). stepped (c .before .before .before .before .before .before .before .before .args .asked) s (now (c .before .before .before .before .before .before .before .before .args .input))) (c .before .before .before .before .enum-told2 .given .1))) (c .before .before .step-frame .ensures)
+returns-2 c = took-as (sym (ap (λ (s : Stage). stepped (c .before .before .before .before .before .before .before .before .before .args .asked) s (now (c .before .before .before .before .before .before .before .before .before .args .input))) (c .before .before .before .before .before .stage .given .1))) (c .before .before .step-frame .ensures)
 
 same-length-3 : tie.Need-same-length-3
 same-length-3 c = search needs
 
 returns-3 : tie.Need-returns-3
 unfolding stepped
-returns-3 c = took-as (sym (ap (λ (s : Stage). stepped (c .before .before .before .before .before .before .before .before .before .args .asked) s (now (c .before .before .before .before .before .before .before .before .before .args .input))) (c .before .before .before .before .before .stage .given .1))) (c .before .before .step-skip .ensures)
+returns-3 c = took-as (sym (ap (λ (s : Stage). stepped (c .before .before .before .before .before .before .before .before .before .args .asked) s (now (c .before .before .before .before .before .before .before .before .before .args .input))) (c .before .before .before .before .before .stage2 .given .1))) (c .before .before .step-skip .ensures)
 
 returns-4 : tie.Need-returns-4
 unfolding stepped
-returns-4 c = took (ap (λ (s : Stage). stepped (c .before .before .before .before .args .asked) s (now (c .before .before .before .before .args .input))) (c .enum-told3 .given .1)) put-none
+returns-4 c = took (ap (λ (s : Stage). stepped (c .before .before .before .before .args .asked) s (now (c .before .before .before .before .args .input))) (c .enum-told2 .given .1)) put-none
 
 pub step-spec : {M : Type 1} → statement M
 step-spec =
@@ -62,11 +62,11 @@ step-spec =
     (tie.spec
     enum-told
     step-version-requires
-    enum-told-2
-    step-frame-requires
     enum-known-stage
+    step-frame-requires
+    enum-known-stage-2
     step-skip-requires
-    enum-told-3
+    enum-told-2
     same-length
     returns
     same-length-2
