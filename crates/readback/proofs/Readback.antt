@@ -43,7 +43,8 @@ use Rattle.readback.specs.Meaning.{meaning}
 use Rattle.readback.specs.Printed.{Printed}
 use Rattle.readback.proofs.Sound.{SoundName, Sound, counted}
 use Rattle.readback.proofs.Lines.{sound-line, reads}
-use Rattle.readback.proofs.Starts.{well-started, lacks-unstarted, nothing-unstarted}
+use Rattle.places.proofs.Starts.{nothing-unstarted}
+use Rattle.readback.proofs.Starts.{well-started, lacks-unstarted}
 use Rattle.readback.proofs.Arms.{branches, items-sound}
 
 -- ---- Every line of a record that keeps the rules is sound
@@ -86,7 +87,7 @@ line-sound mode arm start i w shape size over =
       d = s .d;
       labels = plan-labels-there mode arm (startingAt start i) plan (lacks-unstarted start i plan ∙ plan-lacking arm i shape ∙ size);
       ordered = left-unstarted mode arm start i plan ∙ from-the-left mode arm i (counted-from-left i w) shape;
-      ended = λ e. tail-after-operand mode arm i (sym (nothing-unstarted start i mode arm (plan .a)) ∙ e);
+      ended = λ e. tail-after-operand mode arm i (sym (nothing-unstarted mode arm start i (plan .a)) ∙ e);
     }
 
 module _ {asked : Asked} {body : List ℕ} (p : Printed asked body) where

@@ -1,16 +1,10 @@
--- A record keeps its rules wherever it starts, and its places lack no more, repeat no more and show no less.
+-- A record keeps its rules wherever it starts, and its places lack no more and repeat no more.
 -- Assumes nothing.
 use mathlib.Core.Path.{_≡_, refl}
 use Prim.Native.Nat.{ℕ}
 use Rattle.operands.specs.Parts.{startingAt}
 use Rattle.operands.specs.declared.Instruction.{Instruction}
 use Rattle.bodies.specs.WellFormed.{WellFormed}
-use Rattle.branches.specs.Sums.{branchShown}
-use Rattle.branches.specs.declared.Mode.{Mode}
-use Rattle.branches.specs.declared.Mode.the-variants.{Crate, Straight, Target}
-use Rattle.names.specs.declared.Arm.{Arm}
-use Rattle.places.specs.Order.{isNothing}
-use Rattle.places.specs.Places.{itemAt}
 use Rattle.places.specs.declared.Place.{Place}
 use Rattle.places.specs.declared.Place.the-variants as place
 use Rattle.places.specs.declared.Plan.{Plan}
@@ -57,19 +51,3 @@ module _ (start : ℕ) (i : Instruction) where
   pub over-unstarted : (plan : Plan) → planOver16 (startingAt start i) plan ≡ planOver16 i plan
   unfolding planOver16
   over-unstarted plan = rw (place-over (plan .a), place-over (plan .b), place-over (plan .c), place-over (plan .d))
-
-  -- a branch is shown, in every mode
-  branch-unstarted : (mode : Mode) (arm : Arm)
-      → isNothing (itemAt mode arm (startingAt start i) place.Branch .shown) ≡ isNothing (itemAt mode arm i place.Branch .shown)
-  unfolding itemAt branchShown
-  branch-unstarted Crate arm = refl
-  branch-unstarted Straight arm = refl
-  branch-unstarted Target arm = refl
-
-  pub nothing-unstarted : (mode : Mode) (arm : Arm) (p : Place)
-      → isNothing (itemAt mode arm (startingAt start i) p .shown) ≡ isNothing (itemAt mode arm i p .shown)
-  unfolding itemAt
-  nothing-unstarted mode arm place.Nothing = refl
-  nothing-unstarted mode arm (place.Register reg) = refl
-  nothing-unstarted mode arm place.Branch = branch-unstarted mode arm
-  nothing-unstarted mode arm (place.Operand k label segment short mask b) = rw (operand-unstarted start i k)
