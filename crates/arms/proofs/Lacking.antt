@@ -35,7 +35,7 @@ use Rattle.places.specs.declared.Place.{Place}
 use Rattle.places.specs.declared.Place.the-variants as place
 use Rattle.places.specs.declared.Plan.{Plan}
 use Rattle.places.specs.Labels.{labelNumber}
-use Rattle.bodies.proofs.Picks.{neither-right}
+use Rattle.bodies.proofs.Picks.{neither-left, neither-right}
 use Rattle.names.specs.declared.Arm.{Arm}
 use Rattle.names.specs.declared.Arm.the-variants as arms
 use Rattle.arms.specs.Tests.{isBranch, isXbegin, lslSource, hasVector}
@@ -65,10 +65,31 @@ use Rattle.arms.specs.Plans.{
 use Rattle.arms.specs.Shape.{shapeRefused}
 use Rattle.arms.specs.Size.{hasLabel, generalPath, generalRefused, sizeRefused}
 use Rattle.arms.specs.Decorations.{broadcastAfter}
-use Rattle.arms.specs.Missing.{placeLacks, planLacks}
+use Rattle.arms.specs.Missing.{placeMisses, placeLacks, planLacks}
 use Rattle.arms.proofs.Labelled.{isMissing}
 use Rattle.arms.proofs.MissingSizes.{number-of-missing, missing-by-size, missing-with-tbyte, missing-for-lss, missing-in-general-path}
 use Rattle.arms.proofs.ByArm.{first-memory, at-lss, at-lods}
+
+-- ---- A place that misses no label
+
+lacks-none : (i : Instruction) (p : Place) → placeMisses p ≡ false → placeLacks i p ≡ false
+lacks-none i place.Nothing e = refl
+lacks-none i (place.Register reg) e = refl
+lacks-none i place.Branch e = refl
+lacks-none i (place.Operand k label segment short mask b) e = rw e
+
+-- where no place of a plan misses one, the plan lacks none
+pub misses-none :
+    (i : Instruction) (plan : Plan) →
+    (placeMisses (plan .a) || placeMisses (plan .b) || placeMisses (plan .c) || placeMisses (plan .d)) ≡ false → planLacks i plan ≡ false
+unfolding planLacks
+misses-none i plan e =
+    rw (
+      lacks-none i (plan .a) (search (neither-left, neither-right, e)),
+      lacks-none i (plan .b) (search (neither-left, neither-right, e)),
+      lacks-none i (plan .c) (search (neither-left, neither-right, e)),
+      lacks-none i (plan .d) (search (neither-left, neither-right, e)),
+    )
 
 -- ---- The general path
 

@@ -14,7 +14,14 @@ use Rattle.places.specs.declared.Place.the-variants as place
 use Rattle.places.specs.declared.Plan.{Plan}
 use Rattle.places.specs.Labels.{labelNumber}
 
--- a label is called for and there is none
+-- a place calls for a label that there is not
+abbrev pub placeMisses : Place → Bool
+placeMisses place.Nothing = false
+placeMisses (place.Register reg) = false
+placeMisses place.Branch = false
+placeMisses (place.Operand k label segment short mask b) = eqb label (labelNumber Missing)
+
+-- and it shows memory there
 abbrev pub placeLacks : Instruction → Place → Bool
 placeLacks i place.Nothing = false
 placeLacks i (place.Register reg) = false

@@ -24,6 +24,11 @@ pub either : (s t : Bool) → (s || t) ≡ true → (s ≡ true) ⊎ (t ≡ true
 either true t e = inl refl
 either false t e = inr e
 
+-- one of two holds, and it is not the second
+pub either-left : (s t : Bool) → (s || t) ≡ true → t ≡ false → s ≡ true
+either-left true t e n = refl
+either-left false t e n = cc
+
 -- "s and not t" fails, and s holds
 pub then-kept : (s t : Bool) → (s && not t) ≡ false → s ≡ true → t ≡ true
 then-kept true true e h = refl

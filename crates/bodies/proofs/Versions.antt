@@ -3,18 +3,19 @@
 use mathlib.Core.Bool.{Bool, true, false}
 use mathlib.Core.Path.{_≡_, refl, _∙_}
 use mathlib.Core.List.{List, [], _∷_, _++_}
-use Prim.Native.Nat.{ℕ, zero, suc, _+_, _-_, _≤_, _<_, min}
+use Prim.Native.Nat.{ℕ, zero, suc, _+_, _*_, _-_, _≤_, _<_, min}
 use native.Mathlib.Omega.{arith}
 use lib.Dec.{eqb}
 use lib.ListN.{length, length-append, length-take, length-drop, take, drop}
 use lib.Seq.{getD-drop}
-use borrow.Author.Tests.{eq-eqb, ne-eqb}
+use borrow.Author.Tests.{eq-eqb, ne-eqb, eqb-true}
+use Rattle.frames.specs.Frames.{knownVersion}
 use Rattle.frames.specs.Numbers.{byte}
 use Rattle.bodies.specs.Code.{restAt, frontOf, fieldsBy, inFields}
 use Rattle.bodies.specs.WellFormed.{Bytes}
 use Rattle.bodies.specs.Refusals.{lengthRefused, longestFields, longestBody}
 use Rattle.bodies.specs.Versions.{fields}
-use Rattle.bodies.proofs.Picks.{picked}
+use Rattle.bodies.proofs.Picks.{picked, either-left}
 use Rattle.bodies.proofs.Lengths.{short-refused, long-refused}
 
 -- version 1's body is its fields, and version 2's has four bytes more
@@ -47,6 +48,13 @@ module _ (version : ℕ) where
 
   pub rest-one : (version ≡ 2 → ⊥) → restAt version ≡ 4
   rest-one n = rw (ne-eqb version 2 n)
+
+  -- of the versions that there are, it is four times the number
+  pub rest-times : knownVersion version ≡ true → 4 * version ≡ restAt version
+  rest-times known =
+      picked (λ (n : ℕ). 4 * version ≡ n) (eqb version 2) 8 4
+      (λ e. omega (arith, eqb-true version 2 e))
+      (λ e. omega (arith, eqb-true version 1 (either-left (eqb version 1) (eqb version 2) known e)))
 
   pub rest-least : 4 ≤ restAt version
   rest-least = picked (λ (n : ℕ). 4 ≤ n) (eqb version 2) 8 4 (λ e. omega arith) (λ e. omega arith)

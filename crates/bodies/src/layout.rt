@@ -1,16 +1,20 @@
 // A body by its version: its front, and where its rest begins.
 ghost use mathlib.Core.Path.{_≡_};
+ghost use mathlib.Core.Bool.{true};
 ghost use Prim.Native.Nat.{_≤_};
 ghost use lib.ListN.{length};
+ghost use Rattle.frames.specs.Frames.{knownVersion};
 ghost use Rattle.bodies.specs.Versions.{startOf};
 ghost use Rattle.bodies.specs.Code.{restAt, frontOf};
 use crate::Front;
 
-// Version 2 has the start address after the instruction length.
+// Version 2 has the start address after the instruction length. It is reckoned, for a choice of two numbers would become one at each
+// byte that is read of the rest.
 pub fn rest_at(version: u32) -> usize
+    requires { ⌜ knownVersion version ≡ true ⌝ }
     ensures { λ r. ⌜ r ≡ restAt version ⌝ }
 {
-    if version == 2 { 8 } else { 4 }
+    4 * (version as usize)
 }
 
 fn start_of(version: u32, body: &[u8]) -> u32

@@ -8,7 +8,7 @@ use mathlib.Core.Option.{Option, none, some}
 use Prim.Native.Nat.{ℕ, _^_, _<_}
 use native.Mathlib.Nat.{mod-eq-of-lt}
 use native.Mathlib.Omega.{arith}
-use borrow.Author.Tests.{eqb-true, not-false}
+use borrow.Author.Tests.{eqb-true}
 use lib.Dec.{eqb}
 use lib.IntN.{pos, _+ℤ_}
 use Rattle.operands.specs.Parts.{immediateOf}
@@ -16,12 +16,12 @@ use Rattle.operands.specs.declared.Instruction.{Instruction}
 use Rattle.frames.specs.Frames.{knownVersion}
 use Rattle.bodies.specs.Decoding.{instructionOf}
 use Rattle.bodies.specs.Versions.{startOf, recordOf}
-use Rattle.bodies.proofs.Picks.{neither-left, neither-right}
+use Rattle.bodies.proofs.Picks.{neither-right}
 use Rattle.branches.specs.Sums.{signed, branchShown}
 use Rattle.places.specs.Places.{itemAt, itemsAt}
 use Rattle.records.specs.Records.{askedRefused, fieldsOf, refusals, lineAt, recordText}
 use Rattle.records.specs.declared.Asked.{Asked}
-use Rattle.records.proofs.Judging.{unrefused}
+use Rattle.records.proofs.Judging.{version-known, unrefused}
 use Rattle.masm.specs.Operands.{Width, plain}
 use Rattle.masm.specs.Lines.{shows}
 use Rattle.readback.specs.Meaning.{meaning}
@@ -33,12 +33,7 @@ use Rattle.readback.proofs.Branching.{by-arm, shows-branch, branch-unst
 
 -- ---- What is asked
 
--- a version that is accepted is known
-version-known : (asked : Asked) → askedRefused asked ≡ false → knownVersion (asked .version) ≡ true
-unfolding askedRefused
-version-known asked e = not-false (knownVersion (asked .version)) (search (neither-left, neither-right, e))
-
--- and in mode 2 it is not 1
+-- in mode 2 a version that is accepted is not 1
 not-version-1 : (asked : Asked) → asked .mode ≡ 2 → askedRefused asked ≡ false → eqb (asked .version) 1 ≡ false
 unfolding askedRefused
 not-version-1 asked m e = neither-right (not (knownVersion (asked .version))) (eqb (asked .version) 1) (rw m at e)

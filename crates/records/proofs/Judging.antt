@@ -8,9 +8,10 @@ use native.Mathlib.Omega.{arith}
 use lib.Dec.{T, eqb}
 use lib.ListN.{length, take, drop, length-drop}
 use lib.Seq.{take-length}
-use borrow.Author.Tests.{eqb-true, eqb-false, ltb-false}
+use borrow.Author.Tests.{not-false, eqb-true, eqb-false, ltb-false}
 use Rattle.answers.specs.Refusals.{answerOf, room, None, NeverZero}
 use Rattle.answers.proofs.Firsts.{never-zero-by, answer-below, answer-not, none-or-answer}
+use Rattle.frames.specs.Frames.{knownVersion}
 use Rattle.bodies.specs.Body.{countOf}
 use Rattle.bodies.specs.Refusals.{lengthRefused, fieldRefused}
 use Rattle.bodies.specs.Code.{restAt, frontOf, fieldsBy, instructionBy, Whole, bodyAnswer}
@@ -34,10 +35,15 @@ use Rattle.branches.specs.declared.Mode.{Mode}
 use Rattle.arms.proofs.Lacking.{plan-lacking}
 use Rattle.arms.proofs.Ordered.{body-from-the-left}
 use Rattle.records.specs.Records.{askedRefused, fieldsOf, armAt, refusals}
-use Rattle.records.specs.Judged.{judgedAs, judged}
+use Rattle.records.specs.Judged.{judgedAs, judged, JudgesFields}
 use Rattle.records.specs.declared.Asked.{Asked}
 use Rattle.records.specs.declared.Judged.{Judged}
 use Rattle.records.specs.declared.Judged.the-variants.{Refused, Accepted}
+
+-- a version that is accepted is known
+pub version-known : (asked : Asked) → askedRefused asked ≡ false → knownVersion (asked .version) ≡ true
+unfolding askedRefused
+version-known asked e = not-false (knownVersion (asked .version)) (search (neither-left, neither-right, e))
 
 module _ (asked : Asked) (body : List ℕ) {f : List ℕ} (is : fieldsOf asked body ≡ f) where
   -- the first refusal that applies, one by one
@@ -140,6 +146,13 @@ parts-are version body {at} a h e =
 -- and so is its record
 pub record-is : (version : ℕ) (body : List ℕ) {at : ℕ} {front : Front} → at ≡ restAt version → at ≤ length body → front ≡ frontOf version body → recordOf version body ≡ instructionBy front (take (length body - at) (drop at body))
 record-is version body a h e = rw (parts-are version body a h e, ap (λ (f : Front). f .start) e)
+
+-- what the code judges of the two parts is what is judged of the body
+pub judged-by :
+    (asked : Asked) (body : List ℕ) {at : ℕ} {front : Front} {r : Judged} →
+    askedRefused asked ≡ false → at ≡ restAt (asked .version) → at ≤ length body → front ≡ frontOf (asked .version) body →
+    JudgesFields (fieldsBy front (take (length body - at) (drop at body))) r → r ≡ judged asked body
+judged-by asked body m a h e j = j asked body m (parts-are (asked .version) body a h e)
 
 -- what is known of an accepted record
 pub record Unrefused (asked : Asked) (body : List ℕ) : Type 0 where

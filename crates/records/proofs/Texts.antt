@@ -1,17 +1,17 @@
 -- The text of a record by its answer, alone and in a listing.
 -- Assumes nothing.
-use mathlib.Core.Path.{_≡_, refl, sym, ap, _∙_}
+use mathlib.Core.Path.{_≡_, refl, sym, ap, subst, _∙_}
 use mathlib.Core.Bool.{Bool, true, false, not}
 use mathlib.Core.List.{List, [], _++_, append-nil}
 use mathlib.Core.Logic.{_⊎_, inl, inr}
-use Prim.Native.Nat.{ℕ, _≤_, _<_}
+use Prim.Native.Nat.{ℕ, _-_, _≤_, _<_}
 use native.Mathlib.Nat.{zero-add}
 use native.Mathlib.Omega.{arith}
-use lib.ListN.{length, take}
+use lib.ListN.{length, take, drop}
 use borrow.Author.Tests.{ne-eqb}
 use Rattle.text.specs.Choice.{when}
-use Rattle.text.specs.Code.{Put}
-use Rattle.text.proofs.Putting.{put-as}
+use Rattle.text.specs.Code.{Room, Put}
+use Rattle.text.proofs.Putting.{room-as, put-as}
 use Rattle.text.proofs.Writing.{write-none, take-write}
 use Rattle.answers.specs.Refusals.{answerOf, room}
 use Rattle.answers.specs.Outcomes.{Gives}
@@ -20,20 +20,26 @@ use Rattle.answers.specs.Lines.{newline, refusedLine}
 use Rattle.answers.proofs.Unique.{none-or-some}
 use Rattle.answers.proofs.Firsts.{answer-append, answer-before}
 use Rattle.answers.proofs.Outcomes.{gives-refused, gives-as, text-printed}
+use Rattle.bodies.specs.Body.{countOf}
+use Rattle.bodies.specs.Code.{restAt, frontOf, fieldsBy, instructionBy, Whole}
+use Rattle.bodies.specs.declared.Front.{Front}
 use Rattle.bodies.specs.Decoding.{instructionOf}
 use Rattle.bodies.specs.Versions.{recordOf}
 use Rattle.operands.specs.declared.Instruction.{Instruction}
 use Rattle.names.specs.declared.Arm.{Arm}
 use Rattle.places.specs.declared.Plan.{Plan}
+use Rattle.places.specs.Order.{fromTheLeft}
+use Rattle.places.specs.Places.{itemsAt}
 use Rattle.arms.specs.Plans.{planOf}
 use Rattle.branches.specs.declared.Mode.{Mode}
 use Rattle.lines.specs.Text.{lineBy, lineText, longestLine}
 use Rattle.lines.proofs.Short.{line-short}
 use Rattle.records.specs.Records.{modeOf, fieldsOf, armAt, refusals, lineAt, recordText, recordOutcome}
 use Rattle.records.specs.Lines.{recordLine}
-use Rattle.records.specs.Judged.{textOf}
+use Rattle.records.specs.Judged.{judged, refusedAs, textOf, Puts}
 use Rattle.records.specs.declared.Asked.{Asked}
-use Rattle.records.proofs.Judging.{refusals-never-zero, refusals-not-room}
+use Rattle.records.specs.declared.Judged.the-variants.{Refused, Accepted}
+use Rattle.records.proofs.Judging.{refusals-never-zero, refusals-below, refusals-not-room, judged-refused, judged-accepted, parts-are, record-is, unrefused, plan-from-the-left}
 
 module _ (asked : Asked) (body : List ℕ) where
   -- no line exceeds the longest
@@ -54,6 +60,21 @@ module _ (asked : Asked) (body : List ℕ) where
     pub listed-refused : textOf false asked body ≡ refusedLine n
     unfolding textOf
     listed-refused = line-refused
+
+    refused-as : (alone : Bool) → textOf alone asked body ≡ refusedAs alone n
+    refused-as true = alone-refused
+    refused-as false = listed-refused
+
+  -- what is put of it, from its judgement
+  module _ {n : ℕ} (j : judged asked body ≡ Refused n) (alone : Bool) where
+    text-is-refused : textOf alone asked body ≡ refusedAs alone n
+    text-is-refused = let k = judged-refused asked body j in refused-as (k .0) (k .1) alone
+
+    pub refused-room : {xs : List ℕ} {at : ℕ} → Room xs at (textOf alone asked body) → (n < 100) × Room xs at (refusedAs alone n)
+    refused-room room = (rw (judged-refused asked body j .0) (refusals-below asked body), room-as text-is-refused room)
+
+    pub refused-puts : {xs ys : List ℕ} {at number out : ℕ} → number ≡ n → Put xs at (refusedAs alone n) out ys → Puts alone asked body xs at number out ys
+    refused-puts e put = record { answer = e ∙ judged-refused asked body j .0; put = put-as (sym text-is-refused) put }
 
   -- an accepted record
   module _ (e : answerOf (refusals asked body) ≡ 0) where
@@ -108,6 +129,32 @@ module _ (asked : Asked) (body : List ℕ) where
       go (inr some) =
           let none : Put buf 0 [] n after = put-as (alone-refused e some) put in
           rw (none .next, none .text, write-none buf 0) (refused-gives buf e some (λ q. refusals-not-room asked body (sym e ∙ q)))
+
+-- the line of an accepted record from the parts that the code has of it
+pub record Shows (asked : Asked) (body : List ℕ) (mode : Mode) (arm : Arm) (plan : Plan) (front : Front) (rest : List ℕ) : Type 0 where
+  pub accepted : answerOf (refusals asked body) ≡ 0
+  pub held : Whole (fieldsBy front rest)
+  pub few : countOf (fieldsBy front rest) ≤ 4
+  pub ordered : fromTheLeft (itemsAt mode arm (instructionBy front rest) plan) ≡ true
+  pub text : (alone : Bool) → textOf alone asked body ≡ lineText (lineBy mode arm plan (instructionBy front rest)) ++ when (not alone) newline
+
+pub accepted-shows :
+    (asked : Asked) (body : List ℕ) {at : ℕ} {front : Front} {arm : Arm} {plan : Plan} {mode : Mode} →
+    at ≡ restAt (asked .version) → at ≤ length body → front ≡ frontOf (asked .version) body →
+    judged asked body ≡ Accepted arm plan → mode ≡ modeOf asked →
+    Shows asked body mode arm plan front (take (length body - at) (drop at body))
+accepted-shows asked body {mode = mode} a h e j m =
+    let k = judged-accepted asked body j in
+    let u = unrefused asked body (k .0) in
+    let is = parts-are (asked .version) body a h e in
+    let r = record-is (asked .version) body a h e in
+    record {
+      accepted = k .0;
+      held = subst Whole is (u .held);
+      few = subst (λ (f : List ℕ). countOf f ≤ 4) is (u .few);
+      ordered = plan-from-the-left mode u (k .1) (k .2) r;
+      text = accepted-text asked body (k .0) (k .1) (k .2) m r;
+    }
 
 -- what stands in front after a put at the start
 pub put-front : {xs : List ℕ} {t : List ℕ} {r : ℕ} {ys : List ℕ} → length t ≤ length xs → Put xs 0 t r ys → take r ys ≡ t

@@ -1,12 +1,13 @@
 -- What the code makes of a record before there is a buffer, and no promise: the first refusal's number, or the arm and the plan.
 -- Assumes nothing.
-use mathlib.Core.Bool.{Bool, false, cond}
+use mathlib.Core.Bool.{Bool, false, not, cond}
 use mathlib.Core.List.{List}
 use mathlib.Core.Path.{_≡_}
 use Prim.Native.Nat.{ℕ}
 use lib.Dec.{eqb}
 use Rattle.text.specs.Code.{Put}
 use Rattle.answers.specs.Refusals.{answerOf}
+use Rattle.answers.specs.Lines.{refusedLine}
 use Rattle.bodies.specs.Decoding.{instructionOf}
 use Rattle.arms.specs.Plans.{planOf}
 use Rattle.text.specs.Choice.{when}
@@ -26,6 +27,10 @@ judged asked body = judgedAs (answerOf (refusals asked body)) (fieldsOf asked bo
 -- what is judged of fields: of every body that has them, in every mode and version that is asked rightly
 abbrev pub JudgesFields : List ℕ → Judged → Type 0
 JudgesFields f r = (asked : Asked) (body : List ℕ) → askedRefused asked ≡ false → fieldsOf asked body ≡ f → r ≡ judged asked body
+
+-- what is put of a refused record: nothing alone, and its line in a listing
+abbrev pub refusedAs : (alone : Bool) → ℕ → List ℕ
+refusedAs alone answer = when (not alone) (refusedLine answer)
 
 -- alone a record has its text, and none where it is refused
 abbrev pub aloneWith : ℕ → List ℕ → List ℕ

@@ -3,12 +3,10 @@ ghost use mathlib.Core.Path.{_≡_};
 ghost use Rattle.names.specs.Opcodes.{ArmTable};
 ghost use Rattle.bodies.specs.Code.{fieldsBy};
 ghost use Rattle.records.specs.Records.{askedRefused, inVersion, modeOf};
-ghost use Rattle.records.specs.Judged.{judged, JudgesFields};
+ghost use Rattle.records.specs.Judged.{JudgesFields};
 use crate::Asked;
 use crate::Judged;
 use answers::BROADCAST;
-use answers::LENGTH;
-use answers::MODE;
 use answers::SHAPE;
 use answers::SIZE;
 use arms::decorations::broadcast_refused;
@@ -17,8 +15,6 @@ use arms::shapes::shape_refused;
 use arms::sizes::plan_lacks;
 use bodies::Front;
 use bodies::fields;
-use bodies::layout::front_of;
-use bodies::layout::rest_at;
 use bodies::rules;
 use branches::Mode;
 use names::opcodes;
@@ -44,7 +40,7 @@ pub fn in_version(version: u32, asked: Asked) -> Asked
 
 // The refusals of a record's fields, in the order of document 01's table, and document 02's after them. Answers 2 and 3 are asked at once,
 // so that a record of document 01's own is looked through once; those of size and broadcast are read off the plan.
-fn judge_fields(arms: &opcodes::Arms, front: Front, rest: &[u8]) -> Judged
+pub fn judge_fields(arms: &opcodes::Arms, front: Front, rest: &[u8]) -> Judged
     requires { ⌜ ArmTable (now arms) ⌝ }
     ensures { λ r. ⌜ JudgesFields (fieldsBy front (now (rest .entry))) r ⌝ }
 {
@@ -64,22 +60,6 @@ fn judge_fields(arms: &opcodes::Arms, front: Front, rest: &[u8]) -> Judged
         return Judged::Refused(BROADCAST);
     }
     Judged::Accepted { arm, plan }
-}
-
-// What is asked comes first. A body that ends before its rest begins is too short.
-pub fn judge(arms: &opcodes::Arms, body: &[u8], asked: Asked) -> Judged
-    requires { ⌜ ArmTable (now arms) ⌝ }
-    ensures { λ r. ⌜ r ≡ judged asked (now (body .entry)) ⌝ }
-{
-    if asked_refused(asked) {
-        return Judged::Refused(MODE);
-    }
-    let at = rest_at(asked.version);
-    if body.len() < at {
-        return Judged::Refused(LENGTH);
-    }
-    let front = front_of(asked.version, body);
-    judge_fields(arms, front, &body[at..])
 }
 
 // The mode of a number that is not refused.

@@ -1,15 +1,17 @@
 // A record at a place of a lent buffer: alone, or as a line of a listing.
 ghost use mathlib.Core.Path.{_≡_};
+ghost use Prim.Native.Nat.{_<_};
 ghost use Rattle.text.specs.Code.{Room, Put};
 ghost use Rattle.names.specs.Opcodes.{MnemonicTable, ArmTable};
 ghost use Rattle.names.specs.Registers.{RegisterTable};
 ghost use Rattle.names.specs.Labels.{LabelTable};
-ghost use Rattle.records.specs.Judged.{textOf};
-ghost use Rattle.records.specs.Judged.{Puts};
+ghost use Rattle.records.specs.Judged.{refusedAs, textOf, Puts};
 use crate::Asked;
 use crate::Judged;
 use crate::Placed;
 use crate::judge;
+use answers::LENGTH;
+use answers::MODE;
 use answers::PRINTED;
 use bodies::layout::front_of;
 use bodies::layout::rest_at;
@@ -18,7 +20,23 @@ use names::labels;
 use names::opcodes;
 use names::registers;
 
-// Alone a record that is refused has no text; in a listing it has a line, and every line ends in a newline.
+// A record that is refused: alone it has no text, in a listing a line.
+fn put_refused(alone: bool, number: u8, text: &mut [u8], at: usize) -> Placed
+    requires { ⌜ number < 100 ⌝ }
+    requires { ⌜ Room (now text) at (refusedAs alone number) ⌝ }
+    ensures { λ r. ⌜ r .number ≡ number ⌝ }
+    ensures { λ r. ⌜ Put (now (text .entry)) at (refusedAs alone number) (r .out) (now (text .exit)) ⌝ }
+{
+    if alone {
+        Placed { number, out: at }
+    } else {
+        let out = answers::put_refused(text, at, number);
+        Placed { number, out }
+    }
+}
+
+// What is asked comes first, and a body that ends before its rest begins is too short. In a listing every line ends in a newline. The
+// front is read once, for the judgement and for the line.
 pub fn put_record(
     name_letters: &opcodes::Letters,
     name_starts: &opcodes::Starts,
@@ -40,18 +58,17 @@ pub fn put_record(
     requires { ⌜ Room (now text) at (textOf alone asked (now body)) ⌝ }
     ensures { λ r. ⌜ Puts alone asked (now (body .entry)) (now (text .entry)) at (r .number) (r .out) (now (text .exit)) ⌝ }
 {
-    match judge::judge(arms, body, asked) {
-        Judged::Refused(number) => {
-            if alone {
-                Placed { number, out: at }
-            } else {
-                let out = answers::put_refused(text, at, number);
-                Placed { number, out }
-            }
-        }
+    if judge::asked_refused(asked) {
+        return put_refused(alone, MODE, text, at);
+    }
+    let start = rest_at(asked.version);
+    if body.len() < start {
+        return put_refused(alone, LENGTH, text, at);
+    }
+    let front = front_of(asked.version, body);
+    match judge::judge_fields(arms, front, &body[start..]) {
+        Judged::Refused(number) => put_refused(alone, number, text, at),
         Judged::Accepted { arm, plan } => {
-            let start = rest_at(asked.version);
-            let front = front_of(asked.version, body);
             let next = put_line(
                 text,
                 at,

@@ -1,14 +1,12 @@
--- `bodies::layout::rest_at` meets its contract, by its one test.
+-- `bodies::layout::rest_at` meets its contract: there are two versions.
 -- Assumes nothing.
-use borrow.Author.Tests.{eq-eqb, ne-eqb}
+use Rattle.bodies.proofs.Versions.{rest-times}
+use borrow.Author.Needs.{needs}
 use Rattle.bodies.proofs.layout.rest_at.Statement.{statement}
 use Rattle.bodies.proofs.layout.rest_at.Tie as tie
 
 returns : tie.Need-returns
-returns c = rw (eq-eqb _ _ (c .if1 .taken))
-
-returns-2 : tie.Need-returns-2
-returns-2 c = rw (ne-eqb _ _ (c .if1 .left))
+returns c = rest-times (c .args .version) (c .pre)
 
 pub rest-at-spec : {M : Type 1} → statement M
-rest-at-spec = tie.close (tie.spec returns returns-2)
+rest-at-spec = tie.close (tie.spec (search needs) returns)
