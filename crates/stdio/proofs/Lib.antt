@@ -3,4 +3,3 @@ pub mod Moving
 pub mod Held
 pub mod Rounds
 pub mod Locating
-pub mod Comparing

@@ -1,6 +1,6 @@
 // From standard input to standard output, through one buffer of 64 KiB for what is read and one for what is written. All that
 // matters is `streams::pass::pass`; here are the calls of the system, of which no contract can speak. `locate` is the same over
-// `located::pass::pass`, through larger buffers, and `compare` over `compared::pass::pass`, from two files.
+// `located::pass::pass`, through larger buffers; crate `two_files` is, over `compared::pass::pass`.
 ghost use mathlib.Core.Path.{_≡_};
 ghost use Prim.Native.Nat.{_+_, _-_, _^_, _≤_, _<_, min};
 ghost use lib.ListN.{length, take, drop};
@@ -22,7 +22,6 @@ use streams::Next;
 use streams::Passed;
 use streams::Stage;
 
-pub mod compare;
 pub mod locate;
 
 // A pass, and whether its lines could be written.
@@ -166,14 +165,14 @@ pub struct Filled {
 }
 
 // For what is read: one frame at least, whole.
-fn input_buffer() -> [u8; 131072]
+pub fn input_buffer() -> [u8; 131072]
     ensures { λ r. ⌜ 131_072 ≡ length r ⌝ }
 {
     [0; 131072]
 }
 
 // More bytes, after those that are held, which move to the front.
-fn refill(file: i32, from: usize, have: usize, input: &mut [u8]) -> Filled
+pub fn refill(file: i32, from: usize, have: usize, input: &mut [u8]) -> Filled
     requires { ⌜ (from ≤ have) × (have ≤ length (now input)) ⌝ }
     requires { ⌜ have - from < length (now input) ⌝ }
     ensures { λ r. ⌜ (have - from ≤ r .have) × (r .have ≤ length (now (input .entry))) ⌝ }

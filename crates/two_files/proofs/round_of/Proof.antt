@@ -1,12 +1,12 @@
--- `stdio::compare::round_of` meets its contract: what is held of each file lies within what was read, and is no whole frame where more
+-- `two_files::round_of` meets its contract: what is held of each file lies within what was read, and is no whole frame where more
 -- is to be read.
 -- Assumes nothing.
 use native.Mathlib.Omega.{arith}
 use denote.Ref.{now}
-use Rattle.stdio.proofs.Comparing.{first-to, second-to, first-few, second-few}
+use Rattle.two_files.proofs.Comparing.{first-to, second-to, first-few, second-few}
 use borrow.Author.Needs.{needs}
-use Rattle.stdio.proofs.compare.round_of.Statement.{statement}
-use Rattle.stdio.proofs.compare.round_of.Tie as tie
+use Rattle.two_files.proofs.round_of.Statement.{statement}
+use Rattle.two_files.proofs.round_of.Tie as tie
 
 sub-turn-of : tie.Need-sub-turn-of
 sub-turn-of c = search needs

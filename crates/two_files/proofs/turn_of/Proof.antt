@@ -1,10 +1,10 @@
--- `stdio::compare::turn_of` meets its contract: the pass's, whose text lies within the buffer.
+-- `two_files::turn_of` meets its contract: the pass's, whose text lies within the buffer.
 -- Assumes nothing.
 use native.Mathlib.Omega.{arith}
 use lib.ListN.{length-take}
 use borrow.Author.Needs.{needs}
-use Rattle.stdio.proofs.compare.turn_of.Statement.{statement}
-use Rattle.stdio.proofs.compare.turn_of.Tie as tie
+use Rattle.two_files.proofs.turn_of.Statement.{statement}
+use Rattle.two_files.proofs.turn_of.Tie as tie
 
 pass-requires : tie.Need-pass-requires
 pass-requires c κs = search needs

@@ -1,5 +1,5 @@
-// Where two listings differ: read, pass, write, as in the crate's root, over `compared::pass::pass` and two files. On each side a
-// frame is held whole, so the buffers for what is read have 128 KiB.
+// From two files to standard output: where two listings differ. Read, pass, write, as in crate `stdio`, over `compared::pass::pass`. On
+// each side a frame is held whole, so the buffers for what is read have 128 KiB.
 ghost use mathlib.Core.Path.{_≡_};
 ghost use Prim.Native.Nat.{_≤_};
 ghost use lib.ListN.{length};
@@ -9,9 +9,6 @@ ghost use Rattle.names.specs.Labels.{LabelTable};
 ghost use Rattle.compared.specs.Text.{longestEvent};
 ghost use Rattle.cursors.specs.Longest.{longestFrame};
 ghost use Rattle.compared.specs.Pass.{Passes};
-use crate::End;
-use crate::input_buffer;
-use crate::refill;
 use compared::Next;
 use compared::Passed;
 use compared::Stage;
@@ -22,6 +19,9 @@ use names::labels;
 use names::opcodes;
 use names::registers;
 use records::Asked;
+use stdio::End;
+use stdio::input_buffer;
+use stdio::refill;
 
 // A pass, and whether its text could be written.
 pub struct Turn {

@@ -1,4 +1,4 @@
--- `stdio::compare::compare` is safe and ends. The loop's invariant: the buffers keep their length, and what is held of each file lies
+-- `two_files::compare` is safe and ends. The loop's invariant: the buffers keep their length, and what is held of each file lies
 -- within one.
 -- Assumes nothing.
 use mathlib.Core.Path.{_≡_, refl, sym, _∙_}
@@ -7,8 +7,8 @@ use native.Mathlib.Omega.{arith}
 use lib.ListN.{length}
 use Rattle.names.specs.Opcodes.{arms as armTable, opcodes}
 use borrow.Author.Needs.{needs}
-use Rattle.stdio.proofs.compare.compare.Statement.{statement}
-use Rattle.stdio.proofs.compare.compare.Tie as tie
+use Rattle.two_files.proofs.compare.Statement.{statement}
+use Rattle.two_files.proofs.compare.Tie as tie
 
 abbrev Inv-loop : tie.InvT-loop
 Inv-loop asked first-file second-file name-letters name-starts register-letters register-starts label-letters label-starts arms first₀ second₀ text₀ state₀ turns₀ first second text state turns =

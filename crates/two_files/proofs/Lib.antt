@@ -1,0 +1,2 @@
+-- Laws of what is held of two files.
+pub mod Comparing
