@@ -59,6 +59,11 @@ module _ (alone : Bool) (asked : Asked) (xs : List ℕ) where
   start-alone true e = refl
   start-alone false e = cc
 
+-- the first text belongs at the start, aside or not
+pub first-place : (aside : Bool) → 0 ≡ placeOf aside 0
+first-place true = refl
+first-place false = refl
+
 -- the text from `at` on is all that is left, after `total` bytes of it; where nothing is put aside it belongs at that place. Alone, the
 -- one place is the first, and its answer is known after it.
 pub record Walking (alone aside : Bool) (asked : Asked) (xs before : List ℕ) (at total number : ℕ) (text : List ℕ) : Type 0 where

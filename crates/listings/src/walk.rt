@@ -129,8 +129,8 @@ pub fn walk(
     let mut at = start_of(alone);
     let mut total = 0;
     let mut number = PRINTED;
+    let mut place = 0;
     while at < bytes.len() {
-        let place = place_of(aside, total);
         let next = put_next(
             name_letters,
             name_starts,
@@ -149,6 +149,7 @@ pub fn walk(
         at = next.at;
         number = next.number;
         total += next.out - place;
+        place = place_of(aside, total);
     }
     Walked { number, total }
 }
