@@ -1,4 +1,6 @@
 // Answers: a number and a length. A refusal is its number, handed up as it is.
+#![tactic(auto)]
+
 ghost use Rattle.std.specs.Prelude.{◌<◌};
 ghost use Rattle.text.specs.Code.{Room, Put};
 ghost use Rattle.answers.specs.Lines.{decimal, refused_text, refused_line};
@@ -23,7 +25,7 @@ pub const ROOM: u8 = 6;
 pub const BROADCAST: u8 = 7;
 
 // An entry point's answer: 0 and the bytes written, 6 and the room that is asked for, or another refusal and 0.
-#[derive(Drop)]
+#[derive(Clone, Copy)]
 pub struct Answer {
     pub number: u8,
     pub length: usize,

@@ -1,5 +1,7 @@
 // A record body of any bytes and any length: its fields and operands, and answers 2 and 3. Only this crate knows at which byte a
 // field stands. The fields are handed about in two parts, the front and the rest, as version 2 has its start address between them.
+#![tactic(auto)]
+
 pub mod fields;
 pub mod kinds;
 pub mod layout;
@@ -9,7 +11,7 @@ pub mod rules;
 pub mod stored;
 
 // The first four bytes of a body, which are the opcode, the flags and the instruction length, and the start address: 0 in version 1.
-#[derive(Drop)]
+#[derive(Clone, Copy)]
 pub struct Front {
     pub high: u8,
     pub low: u8,

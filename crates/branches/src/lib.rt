@@ -1,5 +1,7 @@
 // What a relative branch shows: in document 01's two modes the word before `$`, and the sign and the size of distance plus length; in
 // document 02's mode 2 the same word and the target.
+#![tactic(auto)]
+
 ghost use Rattle.std.specs.Prelude.{◌≡◌, ◌+◌, true, false, ℤ, pos, ◌+ℤ◌, unsigned_abs};
 ghost use Rattle.branches.specs.Sums.{signed, below0, branch_sum, straight_word, arm_word, branch_word, target_of, shown_sum, branch_shown};
 ghost use Rattle.branches.specs.Code.{parts, parted};
@@ -10,7 +12,7 @@ use operands::{BranchWord, Shown};
 
 // Document 01's modes: 0 is the crate's, 1 shows where a branch goes and, since document 02, how long it is. Document 02's mode 2 shows
 // its target.
-#[derive(Drop)]
+#[derive(Clone, Copy)]
 pub enum Mode {
     Crate,
     Straight,
@@ -18,7 +20,7 @@ pub enum Mode {
 }
 
 // Distance plus length, by its sign and its size.
-#[derive(Drop)]
+#[derive(Clone, Copy)]
 pub struct Sum {
     pub minus: bool,
     pub size: u32,

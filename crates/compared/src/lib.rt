@@ -1,5 +1,7 @@
 // Two listings side by side, each with its own place: the records that differ, by number, with both lines. Both arrive in parts, as
 // the lines of `streams` do; on each side a frame is held whole, since bodies are compared whole.
+#![tactic(auto)]
+
 pub mod events;
 pub mod pass;
 pub mod same;
@@ -10,14 +12,14 @@ pub mod steps;
 use records::Asked;
 
 // What is asked of the records of each side: their lines are by that side's own version.
-#[derive(Drop)]
+#[derive(Clone, Copy)]
 pub struct AskedSides {
     pub first: Asked,
     pub second: Asked,
 }
 
 // What is to be said of a side: nothing, that it is cut, or that its version byte is not known.
-#[derive(Drop)]
+#[derive(Clone, Copy)]
 pub enum Side {
     Sound,
     Cut,
@@ -26,7 +28,7 @@ pub enum Side {
 
 // What is to be done at a place of both listings: bytes are wanted, of the first or of the second; the run ends, with what is to be
 // said of each side; or records stand there, on both sides or on one, by the places of their bodies.
-#[derive(Drop)]
+#[derive(Clone, Copy)]
 pub enum Turn {
     First,
     Second,
@@ -52,7 +54,7 @@ pub enum Turn {
 
 // How far the comparison has come: nothing yet; before a record, with its number, how many were named, and each side's version; or to
 // its end, and whether anything was reported.
-#[derive(Drop)]
+#[derive(Clone, Copy)]
 pub enum Stage {
     Versions,
     Records {
@@ -68,7 +70,7 @@ pub enum Stage {
 
 // What comes next: more of what is held, once the text is handed out; bytes of the first or of the second listing, if there are any;
 // or nothing.
-#[derive(Drop)]
+#[derive(Clone, Copy)]
 pub enum Next {
     On,
     First,
@@ -77,7 +79,7 @@ pub enum Next {
 }
 
 // What is said of a record: the place after it, and how many records are named then.
-#[derive(Drop)]
+#[derive(Clone, Copy)]
 pub struct Noted {
     pub out: usize,
     pub named: u64,
@@ -85,7 +87,7 @@ pub struct Noted {
 
 // What a step comes to, and a pass of steps: the stage then, the place in each listing, the next place of the text, and what comes
 // next.
-#[derive(Drop)]
+#[derive(Clone, Copy)]
 pub struct Passed {
     pub stage: Stage,
     pub first: usize,

@@ -1,10 +1,12 @@
 // A place in a listing that may still go on, and what stands there.
+#![tactic(auto)]
+
 pub mod core;
 pub mod reader;
 
 // What stands at a place: a record, by the places of its body; the end; too few bytes for a frame, and no more to come; or more bytes
 // are wanted to tell.
-#[derive(Drop)]
+#[derive(Clone, Copy)]
 pub enum Stands {
     Body { start: usize, end: usize },
     End,
@@ -13,7 +15,7 @@ pub enum Stands {
 }
 
 // What stands at a place, and the place after it.
-#[derive(Drop)]
+#[derive(Clone, Copy)]
 pub struct Seen {
     pub stands: Stands,
     pub next: usize,

@@ -6,7 +6,7 @@ ghost use Rattle.cursors.specs.Code.{place_after, Sees};
 use crate::core::{place_after, stands_at};
 use crate::{Seen, Stands};
 
-#[derive(Drop)]
+#[derive(Clone, Copy)]
 pub struct Reader<'a> {
     pub listing: &'a [u8],
     pub at: usize,

@@ -1,4 +1,6 @@
 // A listing's frames: the version byte, then a two-byte length, big-endian, and that many body bytes. What is cut is said here too.
+#![tactic(auto)]
+
 ghost use Rattle.std.specs.Prelude.{◌≡◌, ◌≤◌, length};
 ghost use Rattle.frames.specs.Frames.{known_version};
 ghost use Rattle.frames.specs.Code.{frame_at};
@@ -11,7 +13,7 @@ pub const VERSION_1: u32 = 1;
 pub const VERSION_2: u32 = 2;
 
 // What stands at a place of a listing: a whole frame, by the places of its body, or too few bytes for one.
-#[derive(Drop)]
+#[derive(Clone, Copy)]
 pub enum Frame {
     Whole { start: usize, end: usize },
     Cut,

@@ -1,5 +1,7 @@
 // The two entry points for a C program. They ask nothing of the caller beyond what a C signature can say, and make the tables
 // once, for all that they call.
+#![tactic(auto)]
+
 ghost use Rattle.std.specs.Prelude.{◌≡◌, ◌+◌, ◌*◌, ◌^◌, ◌<◌};
 ghost use Rattle.records.specs.Records.{record_outcome};
 ghost use Rattle.listings.specs.Listings.{listing_outcome};

@@ -1,5 +1,7 @@
 // The text of a line and its put. A line is never built: its head is printed from the arm and the flags, its places straight from
 // the record's body.
+#![tactic(auto)]
+
 pub mod bracket;
 pub mod broadcast;
 pub mod heads;
@@ -12,7 +14,7 @@ use operands::{Items, Tail};
 pub const LONGEST_LINE: usize = 320;
 
 // The mnemonic: an opcode's own name, or one of the three words that are no opcode's name.
-#[derive(Drop)]
+#[derive(Clone, Copy)]
 pub enum Name {
     Opcode(u16),
     Feni,
@@ -21,7 +23,7 @@ pub enum Name {
 }
 
 // What stands before the operands: the prefix words in the printed order, the mnemonic, and whether a `d` is after it.
-#[derive(Drop)]
+#[derive(Clone, Copy)]
 pub struct Head {
     pub xacquire: bool,
     pub xrelease: bool,
@@ -33,7 +35,7 @@ pub struct Head {
 }
 
 // What a line shows, made from the record's fields and its arm and never from text: what the promises speak of.
-#[derive(Drop)]
+#[derive(Clone, Copy)]
 pub struct Line {
     pub head: Head,
     pub items: Items,

@@ -1,10 +1,12 @@
 // The two entry points over lent tables: a listing, that is a version byte and frames, and one record. Both print by one loop.
+#![tactic(auto)]
+
 pub mod listing;
 pub mod record;
 pub mod walk;
 
 // After what stands at a place: the next place of the bytes, the next place of the text, and the answer of a record.
-#[derive(Drop)]
+#[derive(Clone, Copy)]
 pub struct Next {
     pub at: usize,
     pub out: usize,
@@ -12,7 +14,7 @@ pub struct Next {
 }
 
 // After all of it: the answer of the last record, and how many bytes of text there are.
-#[derive(Drop)]
+#[derive(Clone, Copy)]
 pub struct Walked {
     pub number: u8,
     pub total: usize,

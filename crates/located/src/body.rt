@@ -10,7 +10,7 @@ use numerals::digits::put_digits;
 pub const PER_LINE: usize = 40;
 
 // A byte of a body: where it was put, and for how many more the line has room.
-#[derive(Drop)]
+#[derive(Clone, Copy)]
 pub struct Row {
     pub out: usize,
     pub room: usize,

@@ -1,6 +1,8 @@
 // The words of a line: the opcodes' names, registers, segments and labels, each a constant table of one text with offsets; register
 // names that differ in a digit alone are built. All tables but the segments' are made once, above the loop over the records, and lent
 // from there: a constant is stored to the stack at each use.
+#![tactic(auto)]
+
 pub mod labels;
 pub mod opcodes;
 pub mod registers;
@@ -8,7 +10,7 @@ pub mod segments;
 
 // The arms of document 000 in its order, after the variants of its general path. Where two opcodes of one arm print different
 // names, suffixes or words before `$`, they are arms of their own, so that after this the opcode serves for the name alone.
-#[derive(Drop)]
+#[derive(Clone, Copy)]
 pub enum Arm {
     General,
     Qword,

@@ -5,7 +5,7 @@ ghost use Rattle.numerals.specs.Digits.{digit as digit_of, digits as digits_of};
 ghost use Rattle.numerals.specs.Code.{TopOf};
 
 // How many digits a numeral has, and its top one.
-#[derive(Drop)]
+#[derive(Clone, Copy)]
 pub struct Top {
     pub places: usize,
     pub digit: u32,

@@ -1,4 +1,6 @@
 // Numbers as text: document 01's numerals, displacements and absolutes, and decimals.
+#![tactic(auto)]
+
 pub mod absolute;
 pub mod decimals;
 pub mod digits;

@@ -1,9 +1,11 @@
 // What a record says and what a line shows, by value: the types that every crate above shares. An operand is a case; a memory
 // case holds its own base, index and scale. What a line shows never comes from text.
+#![tactic(auto)]
+
 pub mod kinds;
 
 // A bracket's own registers, scale and displacement. A part that the record's kind does not have is false and 0.
-#[derive(Drop)]
+#[derive(Clone, Copy)]
 pub struct Address {
     pub disp: i32,
     pub base: u8,
@@ -17,7 +19,7 @@ pub struct Address {
 // An operand as the record has it. `Absent` is an operand at or past the count. `place` is 1 for the R place and 2 for the M
 // place; an immediate keeps its kind, 3 to 8, and its value as 32 bits, extended where the kind is signed. `mask` is the register byte of
 // the mask, and 0 of a kind that has none.
-#[derive(Drop)]
+#[derive(Clone, Copy)]
 pub enum Operand {
     // no text
     Absent,
@@ -50,7 +52,7 @@ pub enum Operand {
 }
 
 // An accepted record, with its start address, which is 0 in version 1. `bits` are its length bits and `tail` its tail byte, which an extended record ends in; any other has 0 in both.
-#[derive(Drop)]
+#[derive(Clone, Copy)]
 pub struct Instruction {
     pub opcode: u16,
     pub flags: u8,
@@ -67,7 +69,7 @@ pub struct Instruction {
 }
 
 // The size word before a memory operand. `Missing`: a label is called for and there is none.
-#[derive(Drop)]
+#[derive(Clone, Copy)]
 pub enum Label {
     // no text: `lea eax, [ebx]`
     None,
@@ -96,7 +98,7 @@ pub enum Label {
 }
 
 // The word before the `$` or the target of a branch.
-#[derive(Drop)]
+#[derive(Clone, Copy)]
 pub enum BranchWord {
     // no text: `call $+80h`
     None,
@@ -108,7 +110,7 @@ pub enum BranchWord {
 
 // What stands after label and segment: nothing at all, a register by its byte, `st`, an immediate, an absolute of 4 or of 8
 // digits, a bracket, a branch from `$`, or a branch's target.
-#[derive(Drop)]
+#[derive(Clone, Copy)]
 pub enum Shown {
     // no text
     Nothing,
@@ -138,7 +140,7 @@ pub enum Shown {
 }
 
 // What stands after a memory operand that is broadcast.
-#[derive(Drop)]
+#[derive(Clone, Copy)]
 pub enum Broadcast {
     // no text
     None,
@@ -147,7 +149,7 @@ pub enum Broadcast {
 }
 
 // One operand of a line. A segment of 0 is not shown, and neither is a mask of 0, which is the register byte of eax.
-#[derive(Drop)]
+#[derive(Clone, Copy)]
 pub struct Item {
     pub label: Label,
     pub segment: u8,
@@ -157,7 +159,7 @@ pub struct Item {
 }
 
 // What ends a line: a word of the Intel manual for the exceptions that are suppressed, and for how the result is rounded.
-#[derive(Drop)]
+#[derive(Clone, Copy)]
 pub enum Tail {
     // no text
     None,
@@ -174,7 +176,7 @@ pub enum Tail {
 }
 
 // The operands of a line, from the left.
-#[derive(Drop)]
+#[derive(Clone, Copy)]
 pub struct Items {
     pub a: Item,
     pub b: Item,

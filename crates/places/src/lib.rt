@@ -1,11 +1,13 @@
 // A plan of a line: what each of its four places shows of a record. An arm gives the plan, and the places are printed straight from
 // the record's body.
+#![tactic(auto)]
+
 pub mod labels;
 
 use operands::{Broadcast, Tail};
 
 // How a place shows the segment of its operand.
-#[derive(Drop)]
+#[derive(Clone, Copy)]
 pub enum Segment {
     // `[ebx]`, whatever the segment
     Hidden,
@@ -16,7 +18,7 @@ pub enum Segment {
 }
 
 // Whose mask a place shows after its operand.
-#[derive(Drop)]
+#[derive(Clone, Copy)]
 pub enum Mask {
     // `[ebx]{k1}`, the operand's own
     Itself,
@@ -26,7 +28,7 @@ pub enum Mask {
 
 // What stands at a place: nothing; a register that the arm shows by itself; the branch of operand 0; or operand k, with the label
 // of this number and the broadcast where it is memory, with a mask, and as `st` where `short` is set and it is st(0).
-#[derive(Drop)]
+#[derive(Clone, Copy)]
 pub enum Place {
     // no text
     Nothing,
@@ -46,7 +48,7 @@ pub enum Place {
 }
 
 // The places of a line, from the left, and what ends it.
-#[derive(Drop)]
+#[derive(Clone, Copy)]
 pub struct Plan {
     pub a: Place,
     pub b: Place,

@@ -1,6 +1,8 @@
 // From standard input to standard output, through one buffer of 64 KiB for what is read and one for what is written. All that
 // matters is `streams::pass::pass`; here are the calls of the system, of which no contract can speak. `locate` is the same over
 // `located::pass::pass`, through larger buffers; crate `two_files` is, over `compared::pass::pass`.
+#![tactic(auto)]
+
 ghost use Rattle.std.specs.Prelude.{◌≡◌, ◌+◌, ◌-◌, ◌^◌, ◌≤◌, ◌<◌, min, length, take, drop};
 ghost use Rattle.names.specs.Opcodes.{MnemonicTable, ArmTable};
 ghost use Rattle.names.specs.Registers.{RegisterTable};
@@ -18,7 +20,7 @@ use streams::{Next, Passed, Stage};
 pub mod locate;
 
 // A pass, and whether its lines could be written.
-#[derive(Drop)]
+#[derive(Clone, Copy)]
 pub struct Turn {
     pub passed: Passed,
     pub written: bool,
@@ -79,7 +81,7 @@ fn move_down(input: &mut [u8], from: usize, have: usize)
 }
 
 // How many bytes came, or that reading failed.
-#[derive(Drop)]
+#[derive(Clone, Copy)]
 pub struct Got {
     pub count: usize,
     pub failed: bool,
@@ -107,7 +109,7 @@ fn read_more(file: i32, input: &mut [u8], held: usize) -> Got
 
 // What was counted since the start: whole frames, those that are refused, and bytes that were used. A count that no number holds
 // stays at the largest.
-#[derive(Drop)]
+#[derive(Clone, Copy)]
 pub struct Tally {
     pub records: u64,
     pub refused: u64,
@@ -133,7 +135,7 @@ fn less(total: u64, some: usize) -> u64
 }
 
 // How the run stands: it goes on, or how it ended.
-#[derive(Drop)]
+#[derive(Clone, Copy)]
 pub enum End {
     More,
     Whole,
@@ -145,7 +147,7 @@ pub enum End {
 
 // Between two turns: the stage, the bytes held (from `from` up to `have`), whether the input has ended, what was counted, and how
 // the run stands.
-#[derive(Drop)]
+#[derive(Clone, Copy)]
 pub struct State {
     pub stage: Stage,
     pub from: usize,
@@ -156,7 +158,7 @@ pub struct State {
 }
 
 // After a read: how many bytes are held, from the start of the buffer on, whether the input has ended, and how the run stands.
-#[derive(Drop)]
+#[derive(Clone, Copy)]
 pub struct Filled {
     pub have: usize,
     pub ended: bool,

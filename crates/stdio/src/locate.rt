@@ -15,7 +15,7 @@ use records::Asked;
 use streams::Next;
 
 // A pass, and whether its text could be written.
-#[derive(Drop)]
+#[derive(Clone, Copy)]
 pub struct Turn {
     pub passed: Passed,
     pub written: bool,
@@ -63,7 +63,7 @@ fn turn_of(
 
 // Between two turns: the stage, the bytes held (from `from` up to `have`), whether the input has ended, what was counted, and how
 // the run stands.
-#[derive(Drop)]
+#[derive(Clone, Copy)]
 pub struct State {
     pub stage: Stage,
     pub from: usize,

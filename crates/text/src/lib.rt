@@ -1,4 +1,6 @@
 // Writing a text into a lent buffer: the one way in which every crate of the printer stores bytes; and words of a table.
+#![tactic(auto)]
+
 ghost use Rattle.std.specs.Prelude.{◌≡◌, [], ◌∷◌};
 ghost use Rattle.text.specs.Choice.{when};
 ghost use Rattle.text.specs.Code.{Room, Put};

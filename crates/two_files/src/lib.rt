@@ -1,5 +1,7 @@
 // From two files to standard output: where two listings differ. Read, pass, write, as in crate `stdio`, over `compared::pass::pass`. On
 // each side a frame is held whole, so the buffers for what is read have 128 KiB.
+#![tactic(auto)]
+
 ghost use Rattle.std.specs.Prelude.{◌≡◌, ◌≤◌, length};
 ghost use Rattle.names.specs.Opcodes.{MnemonicTable, ArmTable};
 ghost use Rattle.names.specs.Registers.{RegisterTable};
@@ -16,7 +18,7 @@ use records::Asked;
 use stdio::{End, input_buffer, refill};
 
 // A pass, and whether its text could be written.
-#[derive(Drop)]
+#[derive(Clone, Copy)]
 pub struct Turn {
     pub passed: Passed,
     pub written: bool,
@@ -67,7 +69,7 @@ fn turn_of(
 }
 
 // How the run stands: it goes on, or what came of it.
-#[derive(Drop)]
+#[derive(Clone, Copy)]
 pub enum Verdict {
     More,
     Same,
@@ -79,7 +81,7 @@ pub enum Verdict {
 
 // Between two turns: the stage, the bytes held of each file (from `from` up to `have` of its buffer), whether it has ended, and how
 // the run stands.
-#[derive(Drop)]
+#[derive(Clone, Copy)]
 pub struct State {
     pub stage: Stage,
     pub first_from: usize,

@@ -1,4 +1,6 @@
 // A listing with the place of each record, in mode 2, with the targets of branches: from standard input to standard output.
+#![tactic(auto)]
+
 fn main() {
     stdio::locate::run(2);
 }
