@@ -1,0 +1,8 @@
+-- `arms::sizes::misses` meets its contract, place by place.
+-- Assumes nothing.
+use Rattle.arms.proofs.sizes.misses.Goals as goal
+
+-- `arms::sizes::misses` meets its contract, place by place.
+-- Assumes nothing.
+pub returns-in-Operand : goal.returns-in-Operand
+returns-in-Operand c = rw c.in-Operand.is

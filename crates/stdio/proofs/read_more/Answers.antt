@@ -1,0 +1,14 @@
+-- `stdio::read_more` meets its contract: what comes lies within the buffer, after the bytes that are held.
+-- Assumes nothing.
+use Prim.Native.Nat.{◌-◌}
+use native.Mathlib.Omega.{arith}
+use borrow.Rule.Slice.PartMut.{take_put}
+use lib.ListN.{length}
+use borrow.Author.Rules.{rules}
+use Rattle.stdio.proofs.read_more.Goals as goal
+
+pub returns-then-got-lt0 : goal.returns-then-got-lt0
+returns-then-got-lt0 c = (omega arith, take_put c.args.held (length c.args.input.now - c.args.held) c.args.input.now c.read-got.new.1.0 (omega (arith, c.requires)))
+
+pub returns : goal.returns
+returns c = (search rules, take_put c.args.held (length c.args.input.now - c.args.held) c.args.input.now c.read-got.new.1.0 (omega (arith, c.requires)))

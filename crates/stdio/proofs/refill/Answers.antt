@@ -1,0 +1,11 @@
+-- `stdio::refill` meets its contract: the bytes that are held stand in front, before those that came.
+-- Assumes nothing.
+use mathlib.Core.Path.{◌∙◌}
+use native.Mathlib.Omega.{arith}
+use Rattle.stdio.proofs.refill.Goals as goal
+
+pub returns-then-got : goal.returns-then-got
+returns-then-got c = ((omega arith, omega (arith, c.requires.from_le_have.0, c.requires.from_le_have.1)), c.read_more-got.ensures.input_unchanged ∙ c.move_down.ensures.input_after)
+
+pub returns : goal.returns
+returns c = ((omega arith, omega (arith, c.read_more-got.ensures.count_in_bounds, c.move_down.ensures.input_len_unchanged)), c.read_more-got.ensures.input_unchanged ∙ c.move_down.ensures.input_after)

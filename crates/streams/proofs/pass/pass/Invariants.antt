@@ -1,0 +1,16 @@
+-- `streams::pass::pass` meets its contract. The loop's invariant is `Going`; its measure is what is left of the input.
+-- Assumes nothing.
+use Rattle.streams.proofs.Passing.{Going}
+use Prim.Native.Nat.{◌-◌}
+use lib.ListN.{length}
+use Rattle.streams.proofs.pass.pass.Given as goal
+
+-- `streams::pass::pass` meets its contract. The loop's invariant is `Going`; its measure is what is left of the input.
+-- Assumes nothing.
+abbrev pub invariant-loop-text : goal.invariant-loop-text
+invariant-loop-text l =
+    Going l.asked l.initial.stage l.input l.initial.text l.stage l.at l.out l.records l.refused l.text
+
+abbrev pub decreases-loop-text : goal.decreases-loop-text
+decreases-loop-text l =
+    length l.input - l.at
