@@ -150,7 +150,7 @@ def split_let(text):
     text = text.strip()
     while text.startswith("let "):
         at, open_lets, k = None, 0, 0
-        for m in re.finditer(r"\blet\b|\bin\b|[(\[{]|[)\]}]", text):
+        for m in re.finditer(r"(?<![\w.'-])(?:let|in)(?![\w.'-])|[(\[{]|[)\]}]", text):
             if m[0] in "([{":
                 k += 1
             elif m[0] in ")]}":
@@ -265,10 +265,31 @@ def turn(crate, path, file, data, said):
         block = "\n".join(lines).rstrip()
         m = re.match(r"(?:abbrev |pub |unfoldable )*[^\s:]+ : tie\.([^\s]+)", block)
         if re.match(r"(?:pub )?[^\s:]+ : \{M : Type 1\} → statement M", block):
-            inline = re.sub(r"^.*?tie\.spec", "", block, flags=re.S)
-            for it in re.findall(r"\([^()]*(?:\([^()]*\)[^()]*)*\)", inline):
-                if not re.fullmatch(r"\(\s*(λ c( κs)?\. )?(search rules|omega arith)\s*\)", it):
-                    said.append(f"inline {it[:80]}")
+            inline = re.sub(r"^.*?tie\.spec", "", block, flags=re.S).strip()
+            inline = inline[:-1] if inline.endswith(")") else inline
+            args, cur = [], ""
+            for i, ch, depth in level(inline):
+                if depth == 0 and ch.isspace():
+                    if cur:
+                        args.append(cur)
+                    cur = ""
+                else:
+                    cur += ch
+            args += [cur] if cur else []
+            args = [a for a in args if not a.startswith(("invariant-", "decreases-", "invariant_", "decreases_"))]
+            if len(args) != len(data["needs"]):
+                said.append(f"{len(args)} needs were given for {len(data['needs'])}: {[a for a in args if a[0] == '(']}")
+                continue
+            for (old, new), at, it in zip(data["needs"], data["asked_at"], args):
+                g = re.fullmatch(r"\(\s*λ c( κs)?\.\s*(.*)\)", it, re.S)
+                if not g or re.fullmatch(r"(search rules|omega arith)", g[2].strip()) or new.startswith(DROPPED):
+                    continue
+                left = []
+                body = Turn(f, at[0], left).body(g[2])
+                if left:
+                    said.append(f"inline {new}: {left}")
+                else:
+                    answers.append(f"pub {new} : goal.{new}\n{new} c = {body}")
             continue
         if not m:
             helpers.append(block)
@@ -316,13 +337,14 @@ def turn(crate, path, file, data, said):
             body = re.sub(rf"(?<![\w.'-]){re.escape(params[0])}(?=\.)", "c", body)
         left = []
         body = Turn(f, at, left).body(body)
-        for it in left:
-            said.append(f"{new}: {it}")
+        if left:
+            said.append(f"{new}: {left}")
+            continue
         asked = data["asked"].get(old) or data["asked"].get(new)
         for key, names in data["asked"].items():
             if norm(key) == norm(old):
                 asked = names
-        if asked and len(asked) > 1 and re.search(r"requires", old) and not body.lstrip().startswith("search"):
+        if asked and len(asked) > 1 and not body.lstrip().startswith("search"):
             whole = clauses_of(body, asked)
             if whole is None and len(asked) == 2:
                 heads, text = split_let(body)

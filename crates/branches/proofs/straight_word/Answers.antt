@@ -1,6 +1,6 @@
 -- `branches::straight_word` meets its contract: at each return the kind is known.
 -- Assumes nothing.
-use Rattle.std.proofs.Common.{eq-eqb, ne_eqb}
+use Rattle.std.proofs.Common.{eq-eqb}
 use Rattle.branches.proofs.straight_word.Goals as goal
 
 -- `branches::straight_word` meets its contract: at each return the kind is known.
@@ -10,6 +10,3 @@ returns-in-5 c = rw (eq-eqb _ _ c.in-5.is)
 
 pub returns-in-3 : goal.returns-in-3
 returns-in-3 c = rw c.in-3.is
-
-pub returns-in_default : goal.returns-in_default
-returns-in_default c = rw (ne_eqb _ _ c.match.rest.0.1, ne_eqb _ _ c.match.rest.1)

@@ -22,4 +22,4 @@ pub loop-i-preserved : goal.loop-i-preserved
 loop-i-preserved c = moving_on c.loop-i.invariant c.loop-i-test.true
 
 pub returns : goal.returns
-returns c = (c.loop-i.invariant.same_length, moved c.loop-i.invariant c.loop-i-test.false)
+returns c = record { input_len_unchanged = c.loop-i.invariant.same_length; input_after = moved c.loop-i.invariant c.loop-i-test.false }

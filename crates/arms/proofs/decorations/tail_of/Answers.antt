@@ -2,7 +2,7 @@
 -- Assumes nothing.
 use Rattle.bodies.specs.Code.{fields_by}
 use mathlib.Core.Path.{sym, ◌∙◌}
-use Rattle.arms.proofs.Cases.{tail_of_none, tail_of_1, tail_of_2, tail_of_else}
+use Rattle.arms.proofs.Cases.{tail_of_none, tail_of_1, tail_of_2}
 use Rattle.bodies.specs.Decoding.{instruction_of}
 use Rattle.arms.proofs.Results.{results_equal}
 use Rattle.arms.proofs.decorations.tail_of.Goals as goal
@@ -20,7 +20,3 @@ returns-in-1 c = sym (tail_of_1 (instruction_of (fields_by c.args.front c.args.r
 pub returns-in-2 : goal.returns-in-2
 unfolding instruction_of
 returns-in-2 c = rw (c.rounding_of.ensures, c.bits.ensures) (sym (tail_of_2 (instruction_of (fields_by c.args.front c.args.rest.now)) (results_equal c.is_absent_at.ensures c.if-is_absent_at.false) (sym c.tail.ensures ∙ c.in-2.is)))
-
-pub returns-in_default : goal.returns-in_default
-unfolding instruction_of
-returns-in_default c = sym (tail_of_else (instruction_of (fields_by c.args.front c.args.rest.now)) (results_equal c.is_absent_at.ensures c.if-is_absent_at.false) (λ e. c.match.rest.0.1 (c.tail.ensures ∙ e)) (λ e. c.match.rest.1 (c.tail.ensures ∙ e)))

@@ -1,6 +1,5 @@
 -- `arms::labels::general_label` meets its contract: at each return, what was called ensures and what was tested give the definition's case.
 -- Assumes nothing.
-use borrow.Author.Tests.{ne_eqb}
 use Rattle.arms.specs.Labels.{size_label, general_label}
 use Rattle.arms.proofs.labels.general_label.Goals as goal
 
@@ -29,7 +28,3 @@ returns-then-fword c = rw (c.if-fword.true, c.in-6.is)
 pub returns-else-fword : goal.returns-else-fword
 unfolding general_label size_label
 returns-else-fword c = rw (c.if-fword.false, c.in-6.is)
-
-pub returns-in_default : goal.returns-in_default
-unfolding general_label size_label
-returns-in_default c = rw (c.size_label.ensures, ne_eqb _ _ c.before.match.rest.0.0.0.1, ne_eqb _ _ c.before.match.rest.0.0.1, ne_eqb _ _ c.before.match.rest.0.1, ne_eqb _ _ c.before.match.rest.1)

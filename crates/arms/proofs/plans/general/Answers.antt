@@ -2,14 +2,7 @@
 -- Assumes nothing.
 use Rattle.arms.specs.Plans.{spread}
 use Rattle.arms.specs.Code.{general_by}
-use Rattle.arms.proofs.GeneralPath.{general_far, general-alike}
 use Rattle.arms.proofs.plans.general.Goals as goal
-
--- `arms::plans::general` meets its contract: the labels and the segment at each return are those of the arms that are told apart there.
--- Assumes nothing.
-pub returns-in-Jmpf : goal.returns-in-Jmpf
-unfolding spread
-returns-in-Jmpf c = rw (c.spread.ensures, c.general_label.ensures, c.general_label-in-Jmpf.ensures, general_far c.args.arm c.args.mmword c.args.size c.before.before.before.match.keys1)
 
 pub returns-in-Lds : goal.returns-in-Lds
 unfolding spread general_by
@@ -18,7 +11,3 @@ returns-in-Lds c = rw (c.spread-in-Lds.ensures, c.general_label-in-Lds.ensures, 
 pub returns-in-Movs : goal.returns-in-Movs
 unfolding spread general_by
 returns-in-Movs c = rw (c.spread-in-Movs.ensures, c.general_label-label.ensures, c.in-Movs.is)
-
-pub returns-in_default : goal.returns-in_default
-unfolding spread
-returns-in_default c = rw (c.spread-in_default.ensures, c.general_label-label-in_default.ensures, general-alike c.args.arm c.args.mmword c.args.size c.before.before.match.keys4)

@@ -1,22 +1,11 @@
 -- `arms::plans::own` meets its contract: at each return the arm is known, and at the last it is one that shows its name alone.
 -- Assumes nothing.
 use Rattle.bodies.specs.Code.{fields_by}
-use mathlib.Core.List.{[], ◌∷◌}
-use Rattle.operands.specs.RegisterBytes.{eax, ecx, edx}
 use Rattle.places.specs.declared.Place.TheVariants as place
-use Rattle.names.specs.declared.Arm.{Arm}
-use Rattle.names.specs.declared.Arm.TheVariants.{Branch, Call, Xbegin, Monitor, Pvalidate}
 use Rattle.bodies.specs.Decoding.{instruction_of}
-use Rattle.arms.specs.Plans.{named, one, three, places_of}
-use Rattle.names.proofs.ArmGroups.{at_group}
-use Rattle.arms.proofs.GeneralPath.{own_plan, own_branch, own_lsl, own_monitor, own_silent}
+use Rattle.arms.specs.Plans.{places_of}
+use Rattle.arms.proofs.GeneralPath.{own_lsl}
 use Rattle.arms.proofs.plans.own.Goals as goal
-
--- `arms::plans::own` meets its contract: at each return the arm is known, and at the last it is one that shows its name alone.
--- Assumes nothing.
-pub returns-in-Branch : goal.returns-in-Branch
-returns-in-Branch c = let i = instruction_of (fields_by c.args.front c.args.rest.now) in
-    rw (c.one.ensures, own_plan i (one place.Branch) (Branch ∷ Call ∷ Xbegin ∷ []) c.args.arm (own_branch i) c.before.match.keys1 c.requires.rest_value)
 
 pub returns-in-Hreset : goal.returns-in-Hreset
 unfolding places_of
@@ -46,10 +35,6 @@ returns-in-ScatterDword c = rw (c.two-in-ScatterDword.ensures, c.plain-in-Scatte
 pub returns-in-ScatterQword : goal.returns-in-ScatterQword
 unfolding places_of
 returns-in-ScatterQword c = rw (c.two-in-ScatterQword.ensures, c.plain-in-ScatterQword.ensures, c.scattered-in-ScatterQword.ensures, c.in-ScatterQword.is)
-
-pub returns-in-Monitor : goal.returns-in-Monitor
-returns-in-Monitor c = let i = instruction_of (fields_by c.args.front c.args.rest.now) in
-    rw (c.three.ensures, at_group (λ (x : Arm). places_of x i) (three (named eax) (named ecx) (named edx)) (Monitor ∷ Pvalidate ∷ []) c.args.arm (own_monitor i) c.before.match.keys9)
 
 pub returns-in-Mwait : goal.returns-in-Mwait
 unfolding places_of
@@ -94,7 +79,3 @@ returns-in-Fbld c = rw (c.one-in-Fbld.ensures, c.tbyte_label.ensures, c.requires
 pub returns-in-Fbstp : goal.returns-in-Fbstp
 unfolding places_of instruction_of
 returns-in-Fbstp c = rw (c.one-in-Fbstp.ensures, c.labelled-in-Fbstp.ensures, c.tbyte_label-in-Fbstp.ensures, c.requires.size_value, c.in-Fbstp.is)
-
-pub returns-in_default : goal.returns-in_default
-returns-in_default c = let i = instruction_of (fields_by c.args.front c.args.rest.now) in
-    rw (c.none.ensures, own_silent i c.args.arm c.before.match.keys21 c.requires.rest_value)

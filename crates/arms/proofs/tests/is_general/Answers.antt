@@ -2,15 +2,12 @@
 -- the general path.
 -- Assumes nothing.
 use Rattle.bodies.specs.Code.{fields_by}
-use mathlib.Core.Bool.{true, false}
-use mathlib.Core.List.{List, [], ◌∷◌, ◌++◌}
+use mathlib.Core.List.{List, [], ◌∷◌}
 use mathlib.Core.Path.{sym}
 use Rattle.names.specs.declared.Arm.{Arm}
 use Rattle.names.specs.declared.Arm.TheVariants.{General, Qword, Mmword, Jmpf, Callf, Lds, Movs, Cmps, Singles, Doubles, Branch, Call, Xbegin, Lsl, Nop, Incssp, Wrss, Aam}
 use Rattle.bodies.specs.Decoding.{instruction_of}
-use Rattle.arms.specs.Size.{general_path}
-use Rattle.names.proofs.ArmGroups.{at_group, of_group, others}
-use Rattle.arms.proofs.GeneralPath.{path_of_branch, path_of_call, path_of_xbegin, path_of_lsl, path_of_nop, path_of_aam}
+use Rattle.arms.proofs.GeneralPath.{path_of_xbegin, path_of_lsl, path_of_nop, path_of_aam}
 use Rattle.arms.proofs.tests.is_general.Goals as goal
 
 abbrev own : List Arm
@@ -18,15 +15,6 @@ own = General ∷ Qword ∷ Mmword ∷ Jmpf ∷ Callf ∷ Lds ∷ Movs ∷ Cmps 
 
 abbrev leaving : List Arm
 leaving = Branch ∷ Call ∷ Xbegin ∷ Lsl ∷ Nop ∷ Aam ∷ []
-
-pub returns-in-General : goal.returns-in-General
-returns-in-General c = sym (of_group (λ (x : Arm). general_path x (instruction_of (fields_by c.args.front c.args.rest.now))) true own c.args.arm tt c.match.keys1)
-
-pub returns-in-Branch : goal.returns-in-Branch
-unfolding instruction_of
-returns-in-Branch c = let a = c.args in
-    let i = instruction_of (fields_by a.front a.rest.now) in
-    rw c.immediate_kind_at-kind.ensures (sym (at_group (λ (x : Arm). general_path x i) _ (Branch ∷ Call ∷ []) a.arm (path_of_branch i, (path_of_call i, tt)) c.before.match.keys2))
 
 pub returns-in-Xbegin : goal.returns-in-Xbegin
 unfolding instruction_of
@@ -43,6 +31,3 @@ returns-in-Nop c = rw (c.is_absent_at.ensures, c.in-Nop.is) (sym (path_of_nop (i
 pub returns-in-Aam : goal.returns-in-Aam
 unfolding instruction_of
 returns-in-Aam c = rw (c.imm.ensures, c.in-Aam.is) (sym (path_of_aam (instruction_of (fields_by c.args.front c.args.rest.now))))
-
-pub returns-in_default : goal.returns-in_default
-returns-in_default c = sym (of_group (λ (x : Arm). general_path x (instruction_of (fields_by c.args.front c.args.rest.now))) false (others (own ++ leaving)) c.args.arm tt c.match.keys7)

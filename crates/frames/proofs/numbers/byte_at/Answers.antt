@@ -8,4 +8,4 @@ pub overflow_cast-result : goal.overflow_cast-result
 overflow_cast-result c = omega (arith, c.shared_slice_known-1.given c.args.at)
 
 pub returns : goal.returns
-returns c = (search rules, omega (arith, c.shared_slice_known-1.given c.args.at))
+returns c = record { value = search rules; upper_bound = omega (arith, c.shared_slice_known-1.given c.args.at) }

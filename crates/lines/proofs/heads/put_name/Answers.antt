@@ -1,12 +1,8 @@
 -- `lines::heads::put_name` meets its contract: five arms print another name than the opcode's own, and every other prints that.
 -- Assumes nothing.
-use mathlib.Core.Bool.{false}
 use mathlib.Core.Path.{sym}
 use Rattle.text.proofs.Putting.{room_as, put_as}
-use Rattle.names.specs.Among.{is_one_of}
-use Rattle.names.specs.declared.Arm.{Arm}
-use Rattle.names.proofs.ArmGroups.{of_group, others}
-use Rattle.lines.proofs.HeadTexts.{name_jmpf, name_callf, name_feni, name_fdisi, name_fsetpm, name_own, renamed}
+use Rattle.lines.proofs.HeadTexts.{name_jmpf, name_callf, name_feni, name_fdisi, name_fsetpm}
 use Rattle.lines.proofs.heads.put_name.Goals as goal
 
 -- `lines::heads::put_name` meets its contract: five arms print another name than the opcode's own, and every other prints that.
@@ -26,9 +22,6 @@ put_bytes-requires-in-Fdisi c = room_as (name_fdisi c.args.opcode c.in-Fdisi.is)
 pub put_bytes-requires-in-Fsetpm : goal.put_bytes-requires-in-Fsetpm
 put_bytes-requires-in-Fsetpm c = room_as (name_fsetpm c.args.opcode c.in-Fsetpm.is) c.requires.room
 
-pub put_mnemonic-requires : goal.put_mnemonic-requires
-put_mnemonic-requires c = record { mnemonic_table = c.requires.mnemonic_table; room = room_as (name_own c.args.opcode c.args.arm (of_group (λ (x : Arm). is_one_of x renamed) false (others renamed) c.args.arm tt c.before.match.keys6)) c.requires.room }
-
 pub returns-in-Jmpf : goal.returns-in-Jmpf
 returns-in-Jmpf c = put_as (sym (name_jmpf c.args.opcode c.in-Jmpf.is)) c.put_bytes.ensures
 
@@ -43,6 +36,3 @@ returns-in-Fdisi c = put_as (sym (name_fdisi c.args.opcode c.in-Fdisi.is)) c.put
 
 pub returns-in-Fsetpm : goal.returns-in-Fsetpm
 returns-in-Fsetpm c = put_as (sym (name_fsetpm c.args.opcode c.in-Fsetpm.is)) c.put_bytes-in-Fsetpm.ensures
-
-pub returns-in_default : goal.returns-in_default
-returns-in_default c = put_as (sym (name_own c.args.opcode c.args.arm (of_group (λ (x : Arm). is_one_of x renamed) false (others renamed) c.args.arm tt c.before.before.before.before.match.keys6))) c.put_mnemonic.ensures

@@ -13,9 +13,6 @@ loop-k-init c = (left_all c.requires.room, refl)
 pub place_at-place-requires : goal.place_at-place-requires
 place_at-place-requires c = tt
 
-pub shows_something-requires : goal.shows_something-requires
-shows_something-requires c = let s = c.requires in record { whole = s.1.1.0; rest_bound = s.1.1.1.0 }
-
 pub returns-then-not-shows_something : goal.returns-then-not-shows_something
 returns-then-not-shows_something c = let l = c.loop-k in
     let a = c.args in

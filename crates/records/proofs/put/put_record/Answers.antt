@@ -42,8 +42,7 @@ returns-then-body-start c = let a = c.args in
     refused_puts a.asked b j a.alone c.put_refused-then-body-start.ensures.number_value c.put_refused-then-body-start.ensures.put
 
 pub put_refused-requires-in-Refused : goal.put_refused-requires-in-Refused
-put_refused-requires-in-Refused c = let a = c.args in let b = a.body.now in let j = sym (judged_by a.asked b (said c.asked_refused.ensures c.if-asked_refused.false) c.rest_at-start.ensures c.if-body-start.false c.front_of-front.ensures c.judge_fields.ensures) ∙ c.in let both = -Refused.is in
-    refused_room a.asked b j a.alone c.requires.room in record { number_bound = both.0; room = both.1 }
+put_refused-requires-in-Refused c = let a = c.args in let b = a.body.now in let j = sym (judged_by a.asked b (said c.asked_refused.ensures c.if-asked_refused.false) c.rest_at-start.ensures c.if-body-start.false c.front_of-front.ensures c.judge_fields.ensures) ∙ c.in-Refused.is in let both = refused_room a.asked b j a.alone c.requires.room in record { number_bound = both.0; room = both.1 }
 
 pub put_line-next-requires : goal.put_line-next-requires
 put_line-next-requires c = let a = c.args in let b = a.body.now in let s = accepted_shows a.asked b c.rest_at-start.ensures c.if-body-start.false c.front_of-front.ensures (sym (judged_by a.asked b (said c.asked_refused.ensures c.if-asked_refused.false) c.rest_at-start.ensures c.if-body-start.false c.front_of-front.ensures c.judge_fields.ensures) ∙ c.in-Accepted.is) c.mode_of.ensures in record { mnemonic_table = c.requires.mnemonic_table; register_table = c.requires.register_table; label_table = c.requires.label_table; whole = s.held; rest_bound = s.few; plan_value = s.ordered; room = first (when (not a.alone) newline) (room_as (s.text a.alone) c.requires.room) }

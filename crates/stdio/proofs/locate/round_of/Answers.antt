@@ -7,9 +7,6 @@ use Rattle.stdio.proofs.locate.round_of.Goals as goal
 pub turn_of-turn-requires : goal.turn_of-turn-requires
 turn_of-turn-requires c = record { mnemonic_table = c.requires.mnemonic_table; register_table = c.requires.register_table; label_table = c.requires.label_table; arm_table = c.requires.arm_table; longest_part_in_bounds = c.requires.longest_part_in_bounds }
 
-pub overflow_add-from : goal.overflow_add-from
-overflow_add-from c = omega (arith, c.before.before.before.before.before.before.before.before.before.before.before.well-formed.1.1.1.1.1.1.1.1.0.0, used_to c.args.input.now c.args.state.from c.args.state.have c.requires.from_le_have c.turn_of-turn.ensures, c.requires.from_le_have.1)
-
 pub returns-then-not-turn : goal.returns-then-not-turn
 returns-then-not-turn c = (used_to c.args.input.now c.args.state.from c.args.state.have c.requires.from_le_have c.turn_of-turn.ensures, c.requires.from_le_have.1)
 

@@ -1,4 +1,4 @@
-use mathlib.Core.Path.{refl, sym, ◌∙◌}
+use mathlib.Core.Path.{refl, sym}
 use native.Mathlib.Omega.{arith}
 use Rattle.names.specs.Opcodes.{arms as arm_table, opcodes}
 use Rattle.stdio.proofs.locate.run.Goals as goal
@@ -17,6 +17,3 @@ slice_bounds-round_of-end-in-loop-turns c = sym c.loop-turns.invariant.1.1
 pub round_of-last-requires : goal.round_of-last-requires
 unfolding arm_table opcodes
 round_of-last-requires c = record { mnemonic_table = record { text = c.letters-name_letters.ensures; places = c.starts-name_starts.ensures }; register_table = record { text = c.letters-register_letters.ensures; places = c.starts-register_starts.ensures }; label_table = record { text = c.letters-label_letters.ensures; places = c.starts-label_starts.ensures }; arm_table = refl; from_le_have = (c.loop-turns.invariant.0.0, omega (arith, c.loop-turns.invariant.0.1, c.loop-turns.invariant.1.0)); longest_frame_in_bounds = omega (arith, c.loop-turns.invariant.1.0); longest_part_in_bounds = omega (arith, c.loop-turns.invariant.1.1) }
-
-pub loop-turns-preserved : goal.loop-turns-preserved
-loop-turns-preserved c = ((c.round_of-last.ensures.0, omega (arith, c.round_of-last.ensures.1, c.loop-turns.invariant.1.0)), (c.round_of-last.auto.1.1.1.1.1.1.1.1.0 ∙ c.loop-turns.invariant.1.0, c.round_of-last.auto.1.1.1.1.1.1.1.1.1.1.0 ∙ c.loop-turns.invariant.1.1))
