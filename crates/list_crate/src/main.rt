@@ -1,6 +1,6 @@
 // The lines of a listing in mode 0, the crate's: from standard input to standard output.
 #![tactic(auto)]
 
-fn main() {
-    stdio::run(0);
+fn main(rt: HostRuntime) {
+    stdio::run(&rt, 0);
 }

@@ -1,6 +1,6 @@
 // The lines of a listing in mode 1, straight: from standard input to standard output.
 #![tactic(auto)]
 
-fn main() {
-    stdio::run(1);
+fn main(rt: HostRuntime) {
+    stdio::run(&rt, 1);
 }

@@ -12,9 +12,9 @@ ghost use Rattle.bodies.specs.Refusals.{longest_body};
 ghost use Rattle.streams.specs.Stream.{Alive};
 ghost use Rattle.streams.specs.Pass.{Passes};
 
-use libc::{STDERR_FILENO, STDIN_FILENO, STDOUT_FILENO};
 use names::{labels, opcodes, registers};
 use records::Asked;
+use std::io::{Input, Read};
 use streams::{Next, Passed, Stage};
 
 pub mod locate;
@@ -27,7 +27,8 @@ pub struct Turn {
 }
 
 // One pass over the bytes that are held, and its lines on standard output.
-fn turn_of(
+fn turn_of<R: Print>(
+    rt: &R,
     name_letters: &opcodes::Letters,
     name_starts: &opcodes::Starts,
     register_letters: &registers::Letters,
@@ -63,7 +64,7 @@ fn turn_of(
         asked,
         text,
     );
-    let written = io::write_all(STDOUT_FILENO, &text[..passed.out]);
+    let written = rt.write_all(&text[..passed.out]).is_ok();
     Turn { passed, written }
 }
 
@@ -88,22 +89,20 @@ pub struct Got {
 }
 
 // Reads once, after the bytes that are held. There is room for some, so none means the end of the input.
-fn read_more(file: i32, input: &mut [u8], held: usize) -> Got
+fn read_more<F: Read>(file: &mut F, input: &mut [u8], held: usize) -> Got
     requires { held < length input.old }
     ensures count_in_bounds { held + result.count ≤ length input.old }
     ensures input_unchanged { take held input.new ≡ take held input.old }
 {
-    let got = libc::read(file, &mut input[held..]);
-    if got < 0 {
-        return Got {
+    match file.read(&mut input[held..]) {
+        Ok(count) => Got {
+            count,
+            failed: false,
+        },
+        Err(_) => Got {
             count: 0,
             failed: true,
-        };
-    }
-    let count = io::count(got, &input[held..]);
-    Got {
-        count,
-        failed: false,
+        },
     }
 }
 
@@ -165,6 +164,13 @@ pub struct Filled {
     pub end: End,
 }
 
+// For what is read or written, where a part of a frame serves.
+pub fn large_buffer() -> [u8; 65536]
+    ensures { 65_536 ≡ length result }
+{
+    [0; 65536]
+}
+
 // For what is read: one frame at least, whole.
 pub fn input_buffer() -> [u8; 131072]
     ensures { 131_072 ≡ length result }
@@ -173,7 +179,7 @@ pub fn input_buffer() -> [u8; 131072]
 }
 
 // More bytes, after those that are held, which move to the front.
-pub fn refill(file: i32, from: usize, have: usize, input: &mut [u8]) -> Filled
+pub fn refill<F: Read>(file: &mut F, from: usize, have: usize, input: &mut [u8]) -> Filled
     requires from_le_have { (from ≤ have) × (have ≤ length input.old) }
     requires from_in_bounds { have - from < length input.old }
     ensures from_bound { (have - from ≤ result.have) × (result.have ≤ length input.old) }
@@ -196,7 +202,14 @@ pub fn refill(file: i32, from: usize, have: usize, input: &mut [u8]) -> Filled
     }
 }
 
-fn refilled(stage: Stage, from: usize, have: usize, tally: Tally, input: &mut [u8]) -> State
+fn refilled<F: Read>(
+    file: &mut F,
+    stage: Stage,
+    from: usize,
+    have: usize,
+    tally: Tally,
+    input: &mut [u8],
+) -> State
     requires from_le_have { (from ≤ have) × (have ≤ length input.old) }
     requires from_in_bounds { have - from < length input.old }
     requires alive { Alive stage }
@@ -205,7 +218,7 @@ fn refilled(stage: Stage, from: usize, have: usize, tally: Tally, input: &mut [u
     ensures from_value { (result.from ≡ 0) × (have - from ≤ result.have) }
     ensures input_after { take (have - from) input.new ≡ drop from (take have input.old) }
 {
-    let filled = refill(STDIN_FILENO, from, have, input);
+    let filled = refill(file, from, have, input);
     let end = filled.end;
     State {
         stage,
@@ -218,7 +231,9 @@ fn refilled(stage: Stage, from: usize, have: usize, tally: Tally, input: &mut [u
 }
 
 // A pass, its lines, and more bytes where it needs them.
-fn round_of(
+fn round_of<R: Print, F: Read>(
+    rt: &R,
+    file: &mut F,
     name_letters: &opcodes::Letters,
     name_starts: &opcodes::Starts,
     register_letters: &registers::Letters,
@@ -248,6 +263,7 @@ fn round_of(
     let ended = state.ended;
     let before = state.tally;
     let turn = turn_of(
+        rt,
         name_letters,
         name_starts,
         register_letters,
@@ -289,7 +305,7 @@ fn round_of(
             tally,
             end: End::More,
         },
-        Next::Read => refilled(stage, from, have, tally, input),
+        Next::Read => refilled(file, stage, from, have, tally, input),
         Next::Whole => State {
             stage,
             from,
@@ -318,37 +334,22 @@ fn round_of(
 }
 
 // The last words, on standard error: what was counted, and how the run ended. `cut` is where the frame begins that is cut.
-fn report(tally: Tally, end: End, cut: u64) {
-    io::write_all(STDERR_FILENO, b"list: ");
-    io::print_decimal(STDERR_FILENO, tally.records);
-    io::write_all(STDERR_FILENO, b" records, ");
-    io::print_decimal(STDERR_FILENO, tally.refused);
-    io::write_all(STDERR_FILENO, b" refused; ");
-    match end {
-        End::More => {}
-        End::Whole => {
-            io::write_all(STDERR_FILENO, b"whole\n");
-        }
-        End::Cut => {
-            io::write_all(STDERR_FILENO, b"cut at byte ");
-            io::print_decimal(STDERR_FILENO, cut);
-            io::write_all(STDERR_FILENO, b"\n");
-        }
-        End::Unknown => {
-            io::write_all(STDERR_FILENO, b"unknown version\n");
-        }
-        End::ReadFailed => {
-            io::write_all(STDERR_FILENO, b"standard input cannot be read\n");
-        }
-        End::WriteFailed => {
-            io::write_all(STDERR_FILENO, b"standard output cannot be written\n");
-        }
-    }
+fn report<R: Eprint>(rt: &R, tally: Tally, end: End, cut: u64) {
+    let records = tally.records;
+    let refused = tally.refused;
+    let _ = match end {
+        End::More => eprint!(rt; "list: {records} records, {refused} refused; "),
+        End::Whole => eprintln!(rt; "list: {records} records, {refused} refused; whole"),
+        End::Cut => eprintln!(rt; "list: {records} records, {refused} refused; cut at byte {cut}"),
+        End::Unknown => eprintln!(rt; "list: {records} records, {refused} refused; unknown version"),
+        End::ReadFailed => eprintln!(rt; "list: {records} records, {refused} refused; standard input cannot be read"),
+        End::WriteFailed => eprintln!(rt; "list: {records} records, {refused} refused; standard output cannot be written"),
+    };
 }
 
 // The lines of the listing on standard input. A proved loop has to end, and nothing says that the input does: so the loop counts
 // its turns down, from a number that no run uses up.
-pub fn run(mode: u32) {
+pub fn run<R: Print + Eprint + Input>(rt: &R, mode: u32) {
     let asked = Asked { mode, version: 1 };
     let name_letters = names::opcodes::letters();
     let name_starts = names::opcodes::starts();
@@ -357,8 +358,9 @@ pub fn run(mode: u32) {
     let label_letters = names::labels::letters();
     let label_starts = names::labels::starts();
     let arms = names::opcodes::ARMS;
-    let mut input = io::large_buffer();
-    let mut text = io::large_buffer();
+    let mut file = rt.reader();
+    let mut input = large_buffer();
+    let mut text = large_buffer();
     let mut state = State {
         stage: Stage::Version,
         from: 0,
@@ -375,6 +377,8 @@ pub fn run(mode: u32) {
     while turns > 0 {
         turns -= 1;
         let last = round_of(
+            rt,
+            &mut file,
             &name_letters,
             &name_starts,
             &register_letters,
@@ -393,7 +397,7 @@ pub fn run(mode: u32) {
         } else {
             let stage = last.stage;
             let tally = last.tally;
-            report(tally, end, less(tally.used, streams::stream::begun(stage)));
+            report(rt, tally, end, less(tally.used, streams::stream::begun(stage)));
             return;
         }
     }

@@ -8,10 +8,10 @@ ghost use Rattle.located.specs.Pass.{Passes, longest_frame};
 ghost use Rattle.located.specs.Parts.{longest_part};
 
 use crate::{End, Tally, add, input_buffer, refill, report};
-use libc::{STDIN_FILENO, STDOUT_FILENO};
 use located::{Passed, Stage};
 use names::{labels, opcodes, registers};
 use records::Asked;
+use std::io::{Input, Read};
 use streams::Next;
 
 // A pass, and whether its text could be written.
@@ -22,7 +22,8 @@ pub struct Turn {
 }
 
 // One pass over the bytes that are held, and its text on standard output.
-fn turn_of(
+fn turn_of<R: Print>(
+    rt: &R,
     name_letters: &opcodes::Letters,
     name_starts: &opcodes::Starts,
     register_letters: &registers::Letters,
@@ -57,7 +58,7 @@ fn turn_of(
         asked,
         text,
     );
-    let written = io::write_all(STDOUT_FILENO, &text[..passed.out]);
+    let written = rt.write_all(&text[..passed.out]).is_ok();
     Turn { passed, written }
 }
 
@@ -85,7 +86,9 @@ fn end_of(next: Next) -> End {
 }
 
 // A pass, its text, and more bytes where it needs them.
-fn round_of(
+fn round_of<R: Print, F: Read>(
+    rt: &R,
+    file: &mut F,
     name_letters: &opcodes::Letters,
     name_starts: &opcodes::Starts,
     register_letters: &registers::Letters,
@@ -113,6 +116,7 @@ fn round_of(
     let ended = state.ended;
     let before = state.tally;
     let turn = turn_of(
+        rt,
         name_letters,
         name_starts,
         register_letters,
@@ -146,7 +150,7 @@ fn round_of(
     }
     let next = passed.next;
     if let Next::Read = next {
-        let filled = refill(STDIN_FILENO, from, have, input);
+        let filled = refill(file, from, have, input);
         let end = filled.end;
         return State {
             stage,
@@ -176,7 +180,7 @@ fn text_buffer() -> [u8; 262144]
 }
 
 // The text of the listing on standard input. As in the crate's root, the loop counts its turns down from a number that no run uses up.
-pub fn run(mode: u32) {
+pub fn run<R: Print + Eprint + Input>(rt: &R, mode: u32) {
     let asked = Asked { mode, version: 1 };
     let name_letters = names::opcodes::letters();
     let name_starts = names::opcodes::starts();
@@ -185,6 +189,7 @@ pub fn run(mode: u32) {
     let label_letters = names::labels::letters();
     let label_starts = names::labels::starts();
     let arms = names::opcodes::ARMS;
+    let mut file = rt.reader();
     let mut input = input_buffer();
     let mut text = text_buffer();
     let mut state = State {
@@ -203,6 +208,8 @@ pub fn run(mode: u32) {
     while turns > 0 {
         turns -= 1;
         let last = round_of(
+            rt,
+            &mut file,
             &name_letters,
             &name_starts,
             &register_letters,
@@ -220,7 +227,7 @@ pub fn run(mode: u32) {
             state = last;
         } else {
             let tally = last.tally;
-            report(tally, end, tally.used);
+            report(rt, tally, end, tally.used);
             return;
         }
     }

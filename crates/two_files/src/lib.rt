@@ -12,10 +12,13 @@ ghost use Rattle.compared.specs.Pass.{Passes};
 
 use compared::same::same_bytes;
 use compared::{Next, Passed, Stage};
-use libc::{STDERR_FILENO, STDOUT_FILENO};
 use names::{labels, opcodes, registers};
 use records::Asked;
-use stdio::{End, input_buffer, refill};
+use std::env::{Env, FillError};
+use std::fs;
+use std::io::Read;
+use std::rt::Files;
+use stdio::{End, input_buffer, large_buffer, refill};
 
 // A pass, and whether its text could be written.
 #[derive(Clone, Copy)]
@@ -25,7 +28,8 @@ pub struct Turn {
 }
 
 // One pass over the bytes that are held on both sides, and its text on standard output.
-fn turn_of(
+fn turn_of<R: Print>(
+    rt: &R,
     name_letters: &opcodes::Letters,
     name_starts: &opcodes::Starts,
     register_letters: &registers::Letters,
@@ -64,7 +68,7 @@ fn turn_of(
         asked,
         text,
     );
-    let written = io::write_all(STDOUT_FILENO, &text[..passed.out]);
+    let written = rt.write_all(&text[..passed.out]).is_ok();
     Turn { passed, written }
 }
 
@@ -126,7 +130,8 @@ fn after_read(end: End, unread: Verdict) -> Verdict {
 }
 
 // A pass, its text, and more bytes of the file that it wants them of.
-fn round_of(
+fn round_of<R: Print, F: Read>(
+    rt: &R,
     name_letters: &opcodes::Letters,
     name_starts: &opcodes::Starts,
     register_letters: &registers::Letters,
@@ -135,8 +140,8 @@ fn round_of(
     label_starts: &labels::Starts,
     arms: &opcodes::Arms,
     state: State,
-    first_file: i32,
-    second_file: i32,
+    first_file: &mut F,
+    second_file: &mut F,
     first: &mut [u8],
     second: &mut [u8],
     asked: Asked,
@@ -161,6 +166,7 @@ fn round_of(
     let second_have = state.second_have;
     let second_ended = state.second_ended;
     let turn = turn_of(
+        rt,
         name_letters,
         name_starts,
         register_letters,
@@ -246,7 +252,12 @@ fn round_of(
 }
 
 // The report on two open files. As in the crate's root, the loop counts its turns down from a number that no run uses up.
-fn compare(asked: Asked, first_file: i32, second_file: i32) -> Verdict {
+fn compare<R: Print, F: Read>(
+    rt: &R,
+    asked: Asked,
+    first_file: &mut F,
+    second_file: &mut F,
+) -> Verdict {
     let name_letters = names::opcodes::letters();
     let name_starts = names::opcodes::starts();
     let register_letters = names::registers::letters();
@@ -256,7 +267,7 @@ fn compare(asked: Asked, first_file: i32, second_file: i32) -> Verdict {
     let arms = names::opcodes::ARMS;
     let mut first = input_buffer();
     let mut second = input_buffer();
-    let mut text = io::large_buffer();
+    let mut text = large_buffer();
     let mut state = State {
         stage: Stage::Versions,
         first_from: 0,
@@ -271,6 +282,7 @@ fn compare(asked: Asked, first_file: i32, second_file: i32) -> Verdict {
     while turns > 0 {
         turns -= 1;
         let last = round_of(
+            rt,
             &name_letters,
             &name_starts,
             &register_letters,
@@ -297,69 +309,89 @@ fn compare(asked: Asked, first_file: i32, second_file: i32) -> Verdict {
 }
 
 // The last words, on standard error.
-fn say(words: &[u8]) {
-    io::write_all(STDERR_FILENO, b"compare-listings: ");
-    io::write_all(STDERR_FILENO, words);
-    io::write_all(STDERR_FILENO, b"\n");
+fn say<R: Eprint>(rt: &R, words: &str) {
+    let _ = eprintln!(rt; "compare-listings: {words}");
 }
 
-fn report(verdict: Verdict) {
+fn report<R: Eprint>(rt: &R, verdict: Verdict) {
     match verdict {
         Verdict::More => {}
-        Verdict::Same => say(b"same"),
-        Verdict::Different => say(b"different"),
-        Verdict::FirstUnread => say(b"the first listing cannot be read"),
-        Verdict::SecondUnread => say(b"the second listing cannot be read"),
-        Verdict::Unwritten => say(b"standard output cannot be written"),
+        Verdict::Same => say(rt, "same"),
+        Verdict::Different => say(rt, "different"),
+        Verdict::FirstUnread => say(rt, "the first listing cannot be read"),
+        Verdict::SecondUnread => say(rt, "the second listing cannot be read"),
+        Verdict::Unwritten => say(rt, "standard output cannot be written"),
     }
+}
+
+// A word of the program fits in 4,096 bytes, as any path does.
+fn word_buffer() -> [u8; 4096]
+    ensures { 4_096 ≡ length result }
+{
+    [0; 4096]
 }
 
 // The mode that the first word names; one that there is not where it is none of the three.
-fn mode_asked() -> u32 {
-    let mut word = io::buffer();
-    let length = os::arg(1, &mut word);
-    if same_bytes(&word[..length], b"crate") {
-        return 0;
+fn mode_asked<R: Env>(rt: &R) -> u32 {
+    let mut word = word_buffer();
+    match rt.arg(1, &mut word) {
+        Ok(length) => {
+            if same_bytes(&word[..length], b"crate") {
+                return 0;
+            }
+            if same_bytes(&word[..length], b"straight") {
+                return 1;
+            }
+            if same_bytes(&word[..length], b"target") {
+                return 2;
+            }
+            3
+        }
+        Err(_) => 3,
     }
-    if same_bytes(&word[..length], b"straight") {
-        return 1;
-    }
-    if same_bytes(&word[..length], b"target") {
-        return 2;
-    }
-    3
 }
 
-// The file that a word names, open for reading, or a negative number.
-fn open_named(word: usize) -> i32 {
-    let mut path = io::buffer();
-    let length = os::arg(word, &mut path);
-    if os::errno() != 0 {
-        return -1;
+// The program was given a word of this number. One that is too long counts.
+fn has_word<R: Env>(rt: &R, number: usize) -> bool {
+    let mut word = word_buffer();
+    match rt.arg(number, &mut word) {
+        Ok(_) => true,
+        Err(FillError::TooLong) => true,
+        Err(FillError::NotPresent) => false,
     }
-    os::open_read(&path[..length])
+}
+
+// The file that a word names, open for reading. A name that is no text in UTF-8 names none.
+fn open_named<R: Env + Files>(rt: &R, number: usize) -> Option<R::File> {
+    let mut path = word_buffer();
+    match rt.arg(number, &mut path) {
+        Ok(length) => match str::from_utf8(&path[..length]) {
+            Ok(name) => fs::open(rt, name).ok(),
+            Err(_) => None,
+        },
+        Err(_) => None,
+    }
 }
 
 // By the program's words: the mode, and the names of the first and the second listing.
-pub fn run() {
-    let mode = mode_asked();
+pub fn run<R: Env + Files + Print + Eprint>(rt: &R) {
+    let mode = mode_asked(rt);
     if 2 < mode {
-        say(b"called wrongly");
+        say(rt, "called wrongly");
         return;
     }
-    if os::arg_count() != 4 {
-        say(b"called wrongly");
+    if !has_word(rt, 3) || has_word(rt, 4) {
+        say(rt, "called wrongly");
         return;
     }
-    let first = open_named(2);
-    if first < 0 {
-        say(b"the first listing cannot be opened");
+    let Some(mut first) = open_named(rt, 2) else {
+        say(rt, "the first listing cannot be opened");
         return;
-    }
-    let second = open_named(3);
-    if second < 0 {
-        say(b"the second listing cannot be opened");
+    };
+    let Some(mut second) = open_named(rt, 3) else {
+        say(rt, "the second listing cannot be opened");
         return;
-    }
-    report(compare(Asked { mode, version: 1 }, first, second));
+    };
+    let verdict = compare(rt, Asked { mode, version: 1 }, &mut first, &mut second);
+    report(rt, verdict);
 }
