@@ -1,6 +1,6 @@
 -- What contracts inside the compare tool speak of, and no promise: what stands at a place, as the code finds it.
 -- Assumes nothing.
-use Rattle.core.specs.Prelude.{◌≡◌, ℕ, ◌+◌, ◌-◌, ◌<◌, Bool, cond, List, length, drop, nat_le}
+use Rattle.std.specs.Prelude.{◌≡◌, ℕ, ◌+◌, ◌-◌, ◌<◌, Bool, cond, List, length, drop, nat_le}
 use Rattle.frames.specs.Frames.{is_whole, body_length}
 use Rattle.cursors.specs.Longest.{longest_frame}
 use Rattle.cursors.specs.declared.Stands.{Stands}

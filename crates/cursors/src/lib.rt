@@ -1,8 +1,8 @@
 // A place in a listing that may still go on, and what stands there.
 #![tactic(auto)]
 
-pub mod core;
 pub mod reader;
+pub mod standing;
 
 // What stands at a place: a record, by the places of its body; the end; too few bytes for a frame, and no more to come; or more bytes
 // are wanted to tell.

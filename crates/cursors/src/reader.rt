@@ -1,9 +1,8 @@
-// A listing and a place in it, handed about as one. The borrow checker covers no function over such a struct, so these are thin and
-// proved by hand; what they ask is answered in `core`, on a plain slice.
-ghost use Rattle.core.specs.Prelude.{◌≡◌};
+// A listing and a place in it, handed about as one: what is asked of it is answered in `standing`, on a plain slice.
+ghost use Rattle.std.specs.Prelude.{◌≡◌};
 ghost use Rattle.cursors.specs.Code.{place_after, Sees};
 
-use crate::core::{place_after, stands_at};
+use crate::standing::{place_after, stands_at};
 use crate::{Seen, Stands};
 
 #[derive(Clone, Copy)]

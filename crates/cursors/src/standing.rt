@@ -1,5 +1,5 @@
-// What stands at a place, and the place after it: the core of the reader, on a plain slice.
-ghost use Rattle.core.specs.Prelude.{◌≡◌};
+// What stands at a place, and the place after it, in a plain slice.
+ghost use Rattle.std.specs.Prelude.{◌≡◌};
 ghost use Rattle.cursors.specs.Code.{unfinished as unfinished_by, place_after, Sees};
 
 use crate::Stands;
