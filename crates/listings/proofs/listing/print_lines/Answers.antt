@@ -1,6 +1,5 @@
 -- `listings::listing::print_lines` meets its contract: by the most that the lines can take, or by their length.
 -- Assumes nothing.
-use mathlib.Core.Logic.{⊎_elim}
 use Prim.Native.Nat.{◌≤◌}
 use native.Mathlib.Omega.{arith}
 use lib.ListN.{length, drop, length-drop}
@@ -9,6 +8,7 @@ use Rattle.listings.specs.Lines.{lines_of}
 use Rattle.listings.proofs.LineLaws.{lines_short}
 use Rattle.listings.proofs.Walking.{lines_aside, lines_fit, lines_put, lines-total}
 use Rattle.listings.proofs.listing.print_lines.Goals as goal
+use Rattle.listings.proofs.listing.print_lines.Goals.{then-text-listing+else-text-measured, else-text-listing}
 
 pub walk-measured-requires : goal.walk-measured-requires
 walk-measured-requires c = let a = c.args in record { mnemonic_table = c.requires.mnemonic_table; register_table = c.requires.register_table; label_table = c.requires.label_table; arm_table = c.requires.arm_table; bytes_nonzero = c.requires.listing_nonzero.0; walkable = lines_aside a.asked a.listing.now _ c.requires.listing_nonzero.1 (omega arith) }
@@ -18,9 +18,19 @@ returns-then-text-measured c = let a = c.args in
     text_refused (lines_of a.asked (drop 1 a.listing.now)) (lines-total c.walk-measured.ensures) c.if-text-measured.true
 
 pub walk-printed-requires : goal.walk-printed-requires
-walk-printed-requires c = let a = c.args in let few = c.requires.listing_nonzero.1 in let fits : length (lines_of a.asked (drop 1 a.listing.now)) ≤ length a.text.now = ⊎_elim (λ p. omega (arith, lines-total p.2.ensures, p.5.left)) (λ p. omega (arith, p.left, lines_short a.asked (drop 1 a.listing.now), length-drop 1 a.listing.now)) c.if-text-listing.branch in record { mnemonic_table = c.requires.mnemonic_table; register_table = c.requires.register_table; label_table = c.requires.label_table; arm_table = c.requires.arm_table; bytes_nonzero = c.requires.listing_nonzero.0; walkable = lines_fit a.asked a.listing.now _ few fits }
+walk-printed-requires c = let a = c.args in
+    let fits : length (lines_of a.asked (drop 1 a.listing.now)) ≤ length a.text.now =
+        elim c.if-text-listing.branch [
+            then-text-listing+else-text-measured w ↦ omega (arith, lines-total w.walk-measured.ensures, w.if-text-measured.false) |
+            else-text-listing w ↦ omega (arith, w.if-text-listing.false, lines_short a.asked (drop 1 a.listing.now), length-drop 1 a.listing.now)
+        ] in
+    record { mnemonic_table = c.requires.mnemonic_table; register_table = c.requires.register_table; label_table = c.requires.label_table; arm_table = c.requires.arm_table; bytes_nonzero = c.requires.listing_nonzero.0; walkable = lines_fit a.asked a.listing.now _ c.requires.listing_nonzero.1 fits }
 
 pub returns : goal.returns
 returns c = let a = c.args in
-    let fits : length (lines_of a.asked (drop 1 a.listing.now)) ≤ length a.text.now = ⊎_elim (λ p. omega (arith, lines-total p.2.ensures, p.5.left)) (λ p. omega (arith, p.left, lines_short a.asked (drop 1 a.listing.now), length-drop 1 a.listing.now)) c.if-text-listing.branch in
+    let fits : length (lines_of a.asked (drop 1 a.listing.now)) ≤ length a.text.now =
+        elim c.if-text-listing.branch [
+            then-text-listing+else-text-measured w ↦ omega (arith, lines-total w.walk-measured.ensures, w.if-text-measured.false) |
+            else-text-listing w ↦ omega (arith, w.if-text-listing.false, lines_short a.asked (drop 1 a.listing.now), length-drop 1 a.listing.now)
+        ] in
     text_printed (lines_of a.asked (drop 1 a.listing.now)) fits (lines_put c.walk-printed.ensures)

@@ -6,8 +6,6 @@ use Rattle.answers.proofs.Outcomes.{gives_as}
 use Rattle.listings.proofs.Outcomes.{listing-mode, listing-length, listing_text_lem, text_empty, text_known, text_unknown}
 use Rattle.listings.proofs.listing.print_listing.Goals as goal
 
--- `listings::listing::print_listing` meets its contract: the refusals in their order, then by the version byte.
--- Assumes nothing.
 pub returns-then-asked-gt2 : goal.returns-then-asked-gt2
 returns-then-asked-gt2 c = listing-mode c.args.asked c.args.listing.now c.args.text.now c.if-asked-gt2.true
 

@@ -4,8 +4,6 @@ use mathlib.Core.Path.{sym, ◌∙◌}
 use Rattle.records.proofs.Empty.{empty_answer}
 use Rattle.listings.proofs.record.of_no_bytes.Goals as goal
 
--- `listings::record::of_no_bytes` meets its contract.
--- Assumes nothing.
 pub returns-then-asked_refused : goal.returns-then-asked_refused
 returns-then-asked_refused c = rw (empty_answer c.args.asked, sym c.asked_refused.ensures ∙ c.if-asked_refused.true)
 

@@ -12,8 +12,6 @@ use Rattle.records.proofs.Texts.{alone_short, alone_text, outcome_text, refused_
 use Rattle.listings.proofs.Walking.{alone_fits, alone_put, alone_within}
 use Rattle.listings.proofs.record.print_aside.Goals as goal
 
--- `listings::record::print_aside` meets its contract: what was put aside is the text, which then fits or not; or nothing was put.
--- Assumes nothing.
 pub walk-walked-requires : goal.walk-walked-requires
 walk-walked-requires c = let a = c.args in record { mnemonic_table = c.requires.mnemonic_table; register_table = c.requires.register_table; label_table = c.requires.label_table; arm_table = c.requires.arm_table; bytes_nonzero = c.requires.body_nonzero; walkable = alone_fits a.asked a.body.now _ c.requires.longest_line_in_bounds }
 

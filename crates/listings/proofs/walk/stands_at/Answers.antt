@@ -2,8 +2,6 @@
 -- Assumes nothing.
 use Rattle.listings.proofs.walk.stands_at.Goals as goal
 
--- `listings::walk::stands_at` meets its contract: by whether the body is alone.
--- Assumes nothing.
 pub returns-then-alone : goal.returns-then-alone
 returns-then-alone c = rw c.if-alone.true
 

@@ -5,8 +5,6 @@ use Prim.Native.Nat.{◌-◌}
 use lib.ListN.{length}
 use Rattle.streams.proofs.pass.pass.Given as goal
 
--- `streams::pass::pass` meets its contract. The loop's invariant is `Going`; its measure is what is left of the input.
--- Assumes nothing.
 abbrev pub invariant-loop-text : goal.invariant-loop-text
 invariant-loop-text l =
     Going l.asked l.initial.stage l.input l.initial.text l.stage l.at l.out l.records l.refused l.text

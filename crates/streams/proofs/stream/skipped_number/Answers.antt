@@ -3,8 +3,6 @@
 use mathlib.Core.Path.{sym, ◌∙◌}
 use Rattle.streams.proofs.stream.skipped_number.Goals as goal
 
--- `streams::stream::skipped_number` meets its contract, by its one test.
--- Assumes nothing.
 pub returns-then-asked_refused : goal.returns-then-asked_refused
 returns-then-asked_refused c = rw (sym c.asked_refused.ensures ∙ c.if-asked_refused.true)
 

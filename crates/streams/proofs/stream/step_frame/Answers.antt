@@ -7,8 +7,6 @@ use Rattle.text.proofs.Putting.{put_none}
 use Rattle.streams.proofs.Stepping.{took, frame_few, frame_long, frame_part, whole_took, listed_short}
 use Rattle.streams.proofs.stream.step_frame.Goals as goal
 
--- `streams::stream::step_frame` meets its contract, by its tests; there is room for any line.
--- Assumes nothing.
 pub returns-then-input-lt2 : goal.returns-then-input-lt2
 returns-then-input-lt2 c = took (frame_few c.args.version c.args.asked c.args.input.now c.if-input-lt2.true) put_none
 

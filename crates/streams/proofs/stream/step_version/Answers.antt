@@ -5,8 +5,6 @@ use Rattle.text.proofs.Putting.{put_none}
 use Rattle.streams.proofs.Stepping.{took, version_none, version_known, version_unknown}
 use Rattle.streams.proofs.stream.step_version.Goals as goal
 
--- `streams::stream::step_version` meets its contract, by its tests.
--- Assumes nothing.
 pub returns-then-input-eq0 : goal.returns-then-input-eq0
 returns-then-input-eq0 c = took (version_none c.args.input.now c.if-input-eq0.true) put_none
 
