@@ -1,7 +1,7 @@
 -- The first refusal that applies: it is one, `answer_of` finds it, and where the numbers ascend it is the lowest that applies.
 -- Assumes nothing.
-use mathlib.Core.Path.{◌≡◌, refl, sym, ap, subst, ◌∙◌}
-use mathlib.Core.Bool.{Bool, true, false, cond, not, ◌&&◌, true≢false, false≢true}
+use mathlib.Core.Path.{◌≡◌, refl, sym, subst, ◌∙◌}
+use mathlib.Core.Bool.{Bool, true, false, cond, not, ◌&&◌, true≢false}
 use mathlib.Core.Logic.{◌⊎◌, inl, inr, ◌↔◌}
 use mathlib.Core.List.{List, [], ◌∷◌, ◌++◌}
 use Prim.Native.Nat.{ℕ, ◌≤◌, ◌<◌}
@@ -10,7 +10,7 @@ use lib.Dec.{T, eqb, ltb}
 use borrow.Author.Tests.{eq-eqb, ne_eqb, ltb-true, eqb-false, not-true}
 use Rattle.text.specs.Words.{every}
 use Rattle.text.proofs.Tables.{both_left, both_right, so}
-use Rattle.answers.specs.Refusals.{Refusal, refusal, answer_of, First, here, later, None, NeverZero, ascending, applies, Lowest}
+use Rattle.answers.specs.Refusals.{Refusal, answer_of, First, here, later, None, NeverZero, ascending, applies, Lowest}
 
 -- a test is one of two
 two : (b : Bool) → (b ≡ true) ⊎ (b ≡ false)

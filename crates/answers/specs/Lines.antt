@@ -1,6 +1,6 @@
 -- "a refused one prints `; refused N`", and the lines of a listing that no record has.
 -- Assumes nothing.
-use Rattle.std.specs.Prelude.{Bool, cond, List, [], ◌∷◌, ◌++◌, ℕ, ◌+◌, ◌/◌, ◌%◌, ltb}
+use Rattle.std.specs.Prelude.{cond, List, [], ◌∷◌, ◌++◌, ℕ, ◌+◌, ◌/◌, ◌%◌, ltb}
 use Rattle.text.specs.Words.{bytes}
 
 abbrev pub newline : List ℕ

@@ -3,7 +3,7 @@
 use Rattle.std.specs.Prelude.{◌≡◌, Bool, cond, ◌||◌, List, [], ◌∷◌, ◌++◌, ℕ, ltb, eqb}
 use Rattle.std.proofs.Math.ListN as list
 use Rattle.text.specs.Write.{write}
-use Rattle.answers.specs.Refusals.{Refusal, refusal, room, answer_of}
+use Rattle.answers.specs.Refusals.{Refusal, refusal, room}
 use Rattle.answers.specs.declared.Answer.{Answer}
 
 -- "6 room: the text is longer than the buffer"

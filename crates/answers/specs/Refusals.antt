@@ -1,6 +1,6 @@
 -- A refusal is a number and a test. The refusals of an entry point are a list of such pairs, in the order in which they are asked.
 -- Assumes nothing.
-use Rattle.std.specs.Prelude.{◌≡◌, Bool, true, false, cond, not, ◌&&◌, List, [], ◌∷◌, ℕ, ◌<◌, ltb, eqb, leb}
+use Rattle.std.specs.Prelude.{◌≡◌, Bool, true, false, cond, ◌&&◌, List, [], ◌∷◌, ℕ, ◌<◌, ltb, eqb}
 
 pub record Refusal : Type 0 where
   pub number : ℕ

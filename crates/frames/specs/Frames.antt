@@ -2,8 +2,6 @@
 -- Assumes nothing.
 use Rattle.std.specs.Prelude.{Bool, ◌&&◌, ◌||◌, cond, List, ℕ, ◌+◌, eqb, leb, length, take, drop}
 use Rattle.frames.specs.Numbers.{word}
-use Rattle.frames.specs.declared.Frame.{Frame}
-use Rattle.frames.specs.declared.Frame.TheVariants.{Whole, Cut}
 
 -- the length that stands in front
 abbrev pub body_length : List ℕ → ℕ

@@ -1,15 +1,15 @@
 -- A table's rule, from one test that is computed over the whole table; and the word at each place of a table held as one text with offsets.
 -- Assumes nothing.
-use mathlib.Core.Path.{◌≡◌, refl, sym, ap, ◌∙◌, subst}
+use mathlib.Core.Path.{◌≡◌, refl, sym, ap, ◌∙◌}
 use mathlib.Core.Bool.{Bool, true, false, ◌&&◌, ◌||◌, not}
 use mathlib.Core.List.{List, [], ◌∷◌, ◌++◌, append_assoc}
 use Prim.Native.Nat.{ℕ, zero, suc, suc-le-suc, ◌+◌, ◌-◌, ◌≤◌, ◌<◌}
-use native.Mathlib.Nat.{le_of_suc-le-suc, not-suc-le-zero, add-sub_cancel_left, add_assoc, zero-add, add-zero}
+use native.Mathlib.Nat.{le_of_suc-le-suc, not-suc-le-zero, add-sub_cancel_left, zero-add}
 use native.Mathlib.Numerals.{add-one}
 use native.Mathlib.Omega.{arith}
 use lib.Dec.{T, T_not, eqb, eqb_refl, leb, leb→le}
-use lib.ListN.{length, get_or, take, drop, length-append, length-drop, get_or-eq_default}
-use lib.Seq.{length-take-le, take-append_seam, drop-append_seam, drop_at}
+use lib.ListN.{length, get_or, drop, length-append, length-drop, get_or-eq_default}
+use lib.Seq.{length-take-le, take-append_seam, drop-append_seam}
 use Rattle.text.specs.Code.{Room, Put}
 use Rattle.text.specs.Words.{join, starts, Table, every, same, among, empty, distinct}
 use Rattle.text.specs.Code.{part, word_at, Stands}

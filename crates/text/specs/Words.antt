@@ -1,6 +1,6 @@
 -- Quoted words as bytes, and a table of words held as one text with an offset for each word.
 -- Assumes nothing.
-use Rattle.std.specs.Prelude.{◌≡◌, List, [], ◌∷◌, ◌++◌, Bool, true, false, not, ◌&&◌, ◌||◌, ℕ, ◌+◌, ◌-◌, ◌≤◌, ◌<◌, eqb, ltb, length, get_or, take, drop}
+use Rattle.std.specs.Prelude.{◌≡◌, List, [], ◌∷◌, ◌++◌, Bool, true, false, not, ◌&&◌, ◌||◌, ℕ, ◌+◌, eqb, ltb, length}
 use Prim.Native.String.{String, [] as ▪, ◌∷◌ as ◌▸◌}
 use Prim.Native.Char.{code}
 
