@@ -8,8 +8,6 @@ use Rattle.text.proofs.Putting.{first, rest, and_then, room_as, put_as}
 use Rattle.lines.specs.Brackets.{base_text, index_text, tail_text, bracket_text}
 use Rattle.lines.proofs.bracket.put_bracket.Goals as goal
 
--- `lines::bracket::put_bracket` meets its contract: four puts, one after the other.
--- Assumes nothing.
 pub put_byte-next-requires : goal.put_byte-next-requires
 unfolding bracket_text
 put_byte-next-requires c = first (base_text c.args.a.based c.args.a.base ++ (index_text c.args.a ++ tail_text c.args.a.displaced c.args.a.disp)) c.requires.room
