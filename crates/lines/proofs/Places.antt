@@ -231,18 +231,17 @@ module _ (mode : Mode) (arm : Arm) (start : ℕ) (body : List ℕ) {o : Operand}
   unfolding instruction_of
   branch_is op k v l e = rw (e, k, v, l, op)
 
--- it is a branch: its tag is none of those of what else is shown
-abbrev other_tags : List ℕ
-other_tags = 0 ∷ 1 ∷ 2 ∷ 3 ∷ 4 ∷ 5 ∷ 6 ∷ []
-
-pub branch_tag : (mode : Mode) (arm : Arm) (i : Instruction) {s : Shown} → branch_of mode arm i ≡ s → OneOf other_tags (tag_of the_type s) → ⊥
+-- it is a sum or a target, and nothing else is shown
+pub branch_other :
+    (mode : Mode) (arm : Arm) (i : Instruction) {s : Shown} →
+    branch_of mode arm i ≡ s →
+    ((word : BranchWord) (minus : Bool) (size : ℕ) → s ≡ Branch word minus size → ⊥) →
+    ((word : BranchWord) (target : ℕ) → s ≡ shown.Target word target → ⊥) →
+    ⊥
 unfolding branch_shown
-branch_tag mode arm i e o = by mode (subst (λ (x : Shown). OneOf other_tags (tag_of the_type x)) (sym e) o)
-  where
-    by : (m : Mode) → OneOf other_tags (tag_of the_type (branch_of m arm i)) → ⊥
-    by Crate o = not_one_of 7 other_tags tt o
-    by Straight o = not_one_of 7 other_tags tt o
-    by Target o = not_one_of 8 other_tags tt o
+branch_other Crate arm i e sum target = sum _ _ _ (sym e)
+branch_other Straight arm i e sum target = sum _ _ _ (sym e)
+branch_other Target arm i e sum target = target _ _ (sym e)
 
 pub text_branch : {s : Shown} {word : BranchWord} {minus : Bool} {size : ℕ} → s ≡ Branch word minus size → shown_text s ≡ branch_text word minus size
 unfolding shown_text
