@@ -7,8 +7,6 @@ use Rattle.records.specs.Judged.{text_of}
 use Rattle.compared.specs.Code.{only_text}
 use Rattle.compared.proofs.events.put_only.Goals as goal
 
--- `compared::events::put_only` meets its contract: three puts, one after the other.
--- Assumes nothing.
 pub put_number-next-requires : goal.put_number-next-requires
 unfolding only_text
 put_number-next-requires c = first (c.args.words.now ++ record_line c.args.asked c.args.body.now) c.requires.room

@@ -6,8 +6,6 @@ use lib.ListN.{length}
 use Rattle.compared.proofs.SameBytes.{unequal_same}
 use Rattle.compared.proofs.same.same_bytes.Goals as goal
 
--- `compared::same::same_bytes` meets its contract: runs of unlike length are not the same.
--- Assumes nothing.
 pub returns-then-a-b : goal.returns-then-a-b
 returns-then-a-b c = sym (unequal_same c.args.a.now c.args.b.now (λ e. omega (arith, c.if-a-b.true, ap length e)))
 

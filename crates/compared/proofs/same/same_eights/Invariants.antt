@@ -5,8 +5,6 @@ use lib.ListN.{length}
 use Rattle.compared.proofs.SameBytes.{EqualBelow}
 use Rattle.compared.proofs.same.same_eights.Given as goal
 
--- `compared::same::same_eights` meets its contract: the bytes passed so far are equal, and the last eight may overlap them.
--- Assumes nothing.
 abbrev pub invariant-loop-i : goal.invariant-loop-i
 invariant-loop-i l = (l.i ≤ length l.b) × EqualBelow l.a l.b l.i
 

@@ -5,8 +5,6 @@ use native.Mathlib.Omega.{arith}
 use Rattle.compared.proofs.SideTexts.{start_none, start_some}
 use Rattle.compared.proofs.sides.start_of.Goals as goal
 
--- `compared::sides::start_of` meets its contract, by the byte at the place.
--- Assumes nothing.
 pub returns-then-listing-at : goal.returns-then-listing-at
 returns-then-listing-at c = sym (start_none c.args.listing.now c.args.at c.if-listing-at.true)
 

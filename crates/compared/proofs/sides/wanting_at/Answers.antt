@@ -5,8 +5,6 @@ use lib.ListN.{drop}
 use Rattle.compared.proofs.SideTexts.{wanting_none, wanting_at}
 use Rattle.compared.proofs.sides.wanting_at.Goals as goal
 
--- `compared::sides::wanting_at` meets its contract: an input that has ended brings no more bytes.
--- Assumes nothing.
 pub returns-then-ended : goal.returns-then-ended
 returns-then-ended c = rw c.if-ended.true (sym (wanting_none (drop c.args.at c.args.listing.now)))
 

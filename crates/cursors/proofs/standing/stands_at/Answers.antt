@@ -5,8 +5,6 @@ use Rattle.frames.proofs.FrameAt.{cut_at, cut_few, cut_short}
 use Rattle.cursors.proofs.StandsAt.{sees_none, sees_part, sees_whole}
 use Rattle.cursors.proofs.standing.stands_at.Goals as goal
 
--- `cursors::standing::stands_at` meets its contract: each return is a case of `StandsAt`.
--- Assumes nothing.
 pub returns-then-ended : goal.returns-then-ended
 returns-then-ended c = sees_none c.args.listing.now c.args.at c.args.ended c.if-listing-at.true (rw c.if-ended.true)
 
