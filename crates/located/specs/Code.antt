@@ -13,7 +13,7 @@ use Rattle.located.specs.Pass.{Goes, Unused}
 
 -- a byte of a body was put, and the line has room for so many more
 pub record PutOn (room b : ℕ) (before : List ℕ) (at out left : ℕ) (after : List ℕ) : Type 0 where
-  pub room_after_lem : left ≡ room_after room
+  pub left_is : left ≡ room_after room
   pub put : Put before at (on_line room b) out after
 
 -- what is said of a refused record; of another, nothing

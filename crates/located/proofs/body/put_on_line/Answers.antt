@@ -14,10 +14,10 @@ put_pair-out-requires c = rest (room_as (on_next c.args.b c.if-room-eq0.true) c.
 
 pub returns-then-room-eq0 : goal.returns-then-room-eq0
 returns-then-room-eq0 c = let e = on_next c.args.b c.if-room-eq0.true in
-    record { room_after = room_next c.if-room-eq0.true; put = put_as (sym e) (and_then (room_as e c.requires) c.put_bytes-next.ensures c.put_pair-out.ensures) }
+    record { left_is = room_next c.if-room-eq0.true; put = put_as (sym e) (and_then (room_as e c.requires) c.put_bytes-next.ensures c.put_pair-out.ensures) }
 
 pub put_pair-out-requires-2 : goal.put_pair-out-requires-2
 put_pair-out-requires-2 c = room_as (on_same c.args.room c.args.b c.if-room-eq0.false) c.requires
 
 pub returns : goal.returns
-returns c = record { room_after = room_same c.args.room c.if-room-eq0.false; put = put_as (sym (on_same c.args.room c.args.b c.if-room-eq0.false)) c.put_pair-out-2.ensures }
+returns c = record { left_is = room_same c.args.room c.if-room-eq0.false; put = put_as (sym (on_same c.args.room c.args.b c.if-room-eq0.false)) c.put_pair-out-2.ensures }

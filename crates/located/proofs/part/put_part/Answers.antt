@@ -5,8 +5,6 @@ use Rattle.text.proofs.Putting.{first, rest, and_then}
 use Rattle.located.specs.Parts.{shown_text, comment_text, record_part}
 use Rattle.located.proofs.part.put_part.Goals as goal
 
--- `located::part::put_part` meets its contract: three puts, one after the other.
--- Assumes nothing.
 pub put_head-next-requires : goal.put_head-next-requires
 unfolding record_part
 put_head-next-requires c = first (shown_text c.args.asked c.args.body.now ++ comment_text c.args.body.now) c.requires.room

@@ -9,8 +9,6 @@ use Rattle.located.specs.Code.{refusal_text}
 use Rattle.located.proofs.RecordParts.{shown_parts}
 use Rattle.located.proofs.part.put_shown.Goals as goal
 
--- `located::part::put_shown` meets its contract: the record alone, and what is said of a refusal.
--- Assumes nothing.
 pub put_record-placed-requires : goal.put_record-placed-requires
 put_record-placed-requires c = record { mnemonic_table = c.requires.mnemonic_table; register_table = c.requires.register_table; label_table = c.requires.label_table; arm_table = c.requires.arm_table; room = first (refusal_text (answer_of (refusals c.args.asked c.args.body.now))) (room_as (shown_parts c.args.asked c.args.body.now) c.requires.room) }
 

@@ -1,5 +1,5 @@
 use Rattle.std.proofs.Common.{◌-◌, arith}
-use Rattle.located.proofs.Passing.{going_start, going_on, uses_within, passes_full, passes_rest}
+use Rattle.located.proofs.Passing.{going_start, going_on, uses_within, counts_within, refuses_within, passes_full, passes_rest}
 use Rattle.located.proofs.pass.pass.Goals as goal
 
 pub loop-text-init : goal.loop-text-init
@@ -25,6 +25,15 @@ overflow_sub-input c = omega (arith, c.loop-text.invariant.within)
 
 pub returns-then-taken-eq0 : goal.returns-then-taken-eq0
 returns-then-taken-eq0 c = passes_rest c.loop-text.invariant (omega (arith, c.loop-text-test.true)) c.step-taken.ensures c.if-taken-eq0.true c.next_at-next.ensures c.put_last-out.ensures
+
+pub overflow_add-at : goal.overflow_add-at
+overflow_add-at c = omega (arith, uses_within c.loop-text.invariant c.step-taken.ensures)
+
+pub overflow_add-records : goal.overflow_add-records
+overflow_add-records c = omega (arith, uses_within c.loop-text.invariant c.step-taken.ensures, counts_within c.loop-text.invariant c.step-taken.ensures)
+
+pub overflow_add-refused : goal.overflow_add-refused
+overflow_add-refused c = omega (arith, uses_within c.loop-text.invariant c.step-taken.ensures, counts_within c.loop-text.invariant c.step-taken.ensures, refuses_within c.loop-text.invariant c.step-taken.ensures)
 
 pub loop-text-smaller : goal.loop-text-smaller
 loop-text-smaller c = omega (arith, uses_within c.loop-text.invariant c.step-taken.ensures, c.if-taken-eq0.false)

@@ -5,8 +5,6 @@ use Rattle.text.proofs.Putting.{put_none}
 use Rattle.located.proofs.Going.{goes_known, goes_unknown, steps_none, steps_version}
 use Rattle.located.proofs.steps.step_version.Goals as goal
 
--- `located::steps::step_version` meets its contract: no byte, a version that is known, or another.
--- Assumes nothing.
 pub returns-then-input-eq0 : goal.returns-then-input-eq0
 returns-then-input-eq0 c = steps_none (drop_of_length-le c.args.input.now {i = 0} (omega (arith, c.if-input-eq0.true)))
 
