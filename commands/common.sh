@@ -112,10 +112,10 @@ stop_session() {
 
 # The sources are newer than this file.
 is_older() {
-    [ -n "$(find "$root/crates" "$root/crates.txt" -name must-fail -prune -o -newer "$1" -type f -print 2>/dev/null | head -n 1)" ]
+    [ -n "$(find "$root/crates" "$root/crates.txt" \( -name must-fail -o -name out \) -prune -o -newer "$1" -type f -print 2>/dev/null | head -n 1)" ]
 }
 
-# build FILE WORDS..: makes FILE, below target/, by `rt WORDS`, under the lock.
+# build FILE WHAT NAME: makes FILE, below target/, by commands/make, under the lock.
 build() {
     made=$root/target/$1
     shift
@@ -123,8 +123,7 @@ build() {
     mkdir -p "$root/target/log" 2>/dev/null
     [ -w "$root/target/log" ] || trouble "$(basename "$made") has to be built, and $root/target cannot be written"
     say "building $(basename "$made"): proving the crates that it is made of, which takes minutes the first time"
-    # rt leaves alone what it has proved, also where the program that it made is gone
-    if [ "$1" = check ] && [ ! -f "$made" ]; then rm -f "$root/target/stamp/$2"; fi
+    if [ ! -f "$made" ]; then rm -f "$root/target/stamp/$2"; fi
     goes_on=yes
     in_session sh "$root/commands/build" "$me" "$root" "$rt" "$@" || trouble "$(basename "$made") was not built; target/log/build.out says why"
     [ -f "$made" ] || trouble "$(basename "$made") was not built, though rt says that it was; target/log/build.out has what it says"
@@ -137,7 +136,7 @@ is_built() { [ -f "$root/target/$1" ] && ! is_older "$root/target/$1"; }
 # open_built FILE: as descriptor 8. Whoever removes or replaces it then does no harm.
 open_built() { { command exec 8<"$root/target/$1"; } 2>/dev/null; }
 
-# need FILE WORDS..: FILE, below target/, is built, by `rt WORDS` where it was not, and is open.
+# need FILE WHAT NAME: FILE, below target/, is built, by commands/make where it was not, and is open.
 need() {
     lock shared
     if ! is_built "$1"; then
@@ -159,10 +158,10 @@ need_program() {
     find_kit
     name=$1
     if is_checkout; then
-        # rt has a stamp of a program from when it is proved and run until it is built anew; while there is one,
-        # nobody need wait for what others build
+        # there is a stamp of a program from when it is built until it is built anew; while there is one, nobody need
+        # wait for what others build
         if [ ! -f "$root/target/stamp/$name" ] || ! is_built "bin/$name" || ! open_built "bin/$name"; then
-            need "bin/$name" check "$name"
+            need "bin/$name" program "$name"
         fi
         program=/proc/self/fd/8
         [ -r "$program" ] || program=$root/target/bin/$name

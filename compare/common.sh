@@ -100,7 +100,7 @@ find_programs() {
             wrapper "$name" "$COMPARE_STANDIN/$name"
             continue
         fi
-        [ -f "$root/target/bin/$name" ] || die "there is no target/bin/$name: run rt check $name"
+        [ -f "$root/target/bin/$name" ] || die "there is no target/bin/$name: run commands/make . rt program $name"
         if [ -n "$tools" ]; then
             wrapper "$name" ${emulator:+"$emulator"} "$tools/lib/ld-linux-x86-64.so.2" --library-path "$tools/lib" "$root/target/bin/$name"
         else
@@ -112,7 +112,7 @@ find_programs() {
 # The C host over the archive, and the listing programs.
 build_host() {
     archive=$root/target/staticlib/libhost.a
-    if [ -z "${COMPARE_STANDIN:-}" ] && [ ! -f "$archive" ]; then die "there is no target/staticlib/libhost.a: run rt staticlib host"; fi
+    if [ -z "${COMPARE_STANDIN:-}" ] && [ ! -f "$archive" ]; then die "there is no target/staticlib/libhost.a: run commands/make . rt archive host"; fi
     find_programs list_crate list_straight list_target
     if [ -n "${COMPARE_STANDIN:-}" ]; then
         cc -O2 -fno-builtin -o "$COMPARE_STANDIN/host" "$here/host/driver.c" "$COMPARE_STANDIN/libhost.a" -lpthread -ldl -lm ||
