@@ -1,6 +1,6 @@
 -- What a place shows of a record, and its text, case by case.
 -- Assumes nothing.
-use mathlib.Core.Path.{◌≡◌, refl, sym, ap, subst, ◌∙◌}
+use mathlib.Core.Path.{◌≡◌, refl, sym, ap, ◌∙◌}
 use mathlib.Core.Bool.{Bool, true, false, cond, not, ◌&&◌, not-not}
 use mathlib.Core.List.{List, [], ◌∷◌, ◌++◌, append-nil, append_assoc}
 use Prim.Native.Nat.{ℕ, zero, suc, ◌+◌, ◌≤◌, ◌<◌}
@@ -8,14 +8,11 @@ use native.Mathlib.Omega.{arith}
 use lib.Dec.{eqb, ltb}
 use lib.ListN.{get_or, get_or-map}
 use borrow.Author.Tests.{eq-eqb, ne_eqb}
-use types.Run.{OneOf}
-use denote.Enum.Declared.{tag_of}
 use Rattle.text.specs.Words.{bytes}
 use Rattle.numerals.specs.Numerals.{numeral}
 use Rattle.names.specs.Labels.{labels, label_word}
 use Rattle.names.specs.Registers.{register_name}
 use Rattle.names.specs.declared.Arm.{Arm}
-use Rattle.names.proofs.ArmGroups.{not_one_of}
 use Rattle.operands.specs.Kinds.{is_absent, is_register, is_memory}
 use Rattle.operands.specs.Parts.{starting_at, operand_in, shown_of, segment_of, register_of, immediate_kind, immediate_of, mask_of, bare}
 use Rattle.operands.specs.RegisterBytes.{st0}
@@ -27,7 +24,6 @@ use Rattle.operands.specs.declared.Label.{Label}
 use Rattle.operands.specs.declared.Label.TheVariants.{None}
 use Rattle.operands.specs.declared.Operand.{Operand}
 use Rattle.operands.specs.declared.Operand.TheVariants as operand
-use Rattle.operands.specs.contracts.Shown.{the_type}
 use Rattle.operands.specs.declared.Shown.{Shown}
 use Rattle.operands.specs.declared.Shown.TheVariants as shown
 use Rattle.operands.specs.declared.Shown.TheVariants.{Name, St, Branch}

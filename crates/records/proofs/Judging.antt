@@ -5,7 +5,7 @@ use mathlib.Core.Bool.{Bool, true, false, cond}
 use mathlib.Core.List.{List}
 use Prim.Native.Nat.{ℕ, ◌-◌, ◌≤◌, ◌<◌}
 use native.Mathlib.Omega.{arith}
-use lib.Dec.{T, eqb}
+use lib.Dec.{eqb}
 use lib.ListN.{length, take, drop, length-drop}
 use lib.Seq.{take-length}
 use borrow.Author.Tests.{not-false, eqb-true, eqb-false, ltb-false}
@@ -35,7 +35,7 @@ use Rattle.branches.specs.declared.Mode.{Mode}
 use Rattle.arms.proofs.Lacking.{plan_lacking}
 use Rattle.arms.proofs.Ordered.{body_from_the_left}
 use Rattle.records.specs.Records.{asked_refused, fields_of, arm_at, refusals}
-use Rattle.records.specs.Judged.{judged_as, judged, JudgesFields}
+use Rattle.records.specs.Judged.{judged, JudgesFields}
 use Rattle.records.specs.declared.Asked.{Asked}
 use Rattle.records.specs.declared.Judged.{Judged}
 use Rattle.records.specs.declared.Judged.TheVariants.{Refused, Accepted}

@@ -1,6 +1,6 @@
 -- Document 01's lines marked P hold: each is computed, and then printed into every buffer with room for it.
 -- Assumes nothing.
-use mathlib.Core.Path.{◌≡◌, refl, sym, ap, ◌∙◌}
+use mathlib.Core.Path.{◌≡◌, refl, ap}
 use mathlib.Core.List.{List, [], ◌∷◌, map}
 use Prim.Native.Nat.{ℕ, ◌+◌}
 use borrow.Author.Tests.{le-ltb}

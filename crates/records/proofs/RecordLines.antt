@@ -1,6 +1,6 @@
 -- How long a record's line is: no longer than the longest line and its newline, and no longer than nine times its frame.
 -- Assumes nothing.
-use mathlib.Core.Path.{◌≡◌, refl, ap, ◌∙◌}
+use mathlib.Core.Path.{◌≡◌, refl}
 use mathlib.Core.Logic.{◌⊎◌, inl, inr}
 use mathlib.Core.List.{List, ◌++◌}
 use Prim.Native.Nat.{ℕ, ◌+◌, ◌*◌, ◌≤◌, ◌<◌}
@@ -16,7 +16,7 @@ use Rattle.bodies.specs.Versions.{start_of}
 use Rattle.bodies.proofs.Lengths.{length_least}
 use Rattle.bodies.proofs.Versions.{fields_most}
 use Rattle.arms.specs.Plans.{plan_of}
-use Rattle.lines.specs.Text.{line_text, longest_line}
+use Rattle.lines.specs.Text.{longest_line}
 use Rattle.lines.proofs.Rooms.{line_within}
 use Rattle.records.specs.declared.Asked.{Asked}
 use Rattle.records.specs.Records.{mode_of, fields_of, arm_at, refusals, line_at, record_text}

@@ -4,7 +4,6 @@ use mathlib.Core.Path.{◌≡◌, refl}
 use mathlib.Core.Bool.{true}
 use mathlib.Core.List.{List}
 use Prim.Native.Nat.{ℕ}
-use lib.Dec.{eqb, leb, ltb}
 use Rattle.answers.specs.Refusals.{ascending}
 use Rattle.answers.specs.Outcomes.{with_room}
 use Rattle.answers.specs.Table.{Answered}

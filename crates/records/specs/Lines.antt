@@ -1,7 +1,6 @@
 -- "A listing prints each record and a newline; a refused one prints `; refused N`."
 -- Assumes nothing.
-use Rattle.std.specs.Prelude.{Bool, cond, not, List, [], ◌++◌, ℕ, eqb}
-use Rattle.text.specs.Choice.{when}
+use Rattle.std.specs.Prelude.{cond, List, ◌++◌, ℕ, eqb}
 use Rattle.answers.specs.Refusals.{answer_of}
 use Rattle.answers.specs.Lines.{newline, refused_line}
 use Rattle.records.specs.declared.Asked.{Asked}

@@ -3,7 +3,6 @@
 use mathlib.Core.Path.{refl, ap, ◌∙◌}
 use mathlib.Core.Bool.{not}
 use native.Mathlib.Omega.{arith}
-use Prim.Native.Nat.{◌-◌}
 use Rattle.text.proofs.Putting.{first, put_length, left_all, left_next, left_none, left_as}
 use Rattle.bodies.specs.Code.{instruction_by}
 use Rattle.lines.proofs.Places.{items_shown, items_end}
