@@ -1,22 +1,20 @@
 -- A body that document 01's own tests do not refuse is not extended, and is not refused.
 -- Assumes nothing.
-use mathlib.Core.Path.{◌≡◌, refl, sym, ap, ◌∙◌}
-use mathlib.Core.Bool.{Bool, true, false, not, cond, ◌&&◌, ◌||◌, false≢true}
+use mathlib.Core.Path.{◌≡◌, refl, ◌∙◌}
+use mathlib.Core.Bool.{Bool, true, false, not, cond, ◌&&◌, false≢true}
 use mathlib.Core.List.{List}
 use Prim.Native.Nat.{ℕ, zero, suc, ◌+◌, ◌*◌, ◌≤◌, ◌<◌}
 use native.Mathlib.Omega.{arith}
-use lib.Dec.{eqb, leb, ltb}
-use lib.ListN.{length}
-use borrow.Author.Tests.{leb-true, leb-false, lt-leb, lt-ltb, le-ltb, ltb-false, not-true, not-false, eqb-true, eq-eqb}
+use lib.Dec.{leb, ltb}
+use borrow.Author.Tests.{leb-true, lt-leb, lt-ltb, ltb-false, not-false}
 use Rattle.operands.specs.Kinds.{is_masked}
 use Rattle.frames.specs.Numbers.{byte}
-use Rattle.bodies.specs.Body.{opcode_of, count_of, place_of, kind_at, any_masked, is_vector_opcode, is_extended}
-use Rattle.bodies.specs.Code.{OldWhole, body_answer}
+use Rattle.bodies.specs.Body.{opcode_of, count_of, any_masked, is_extended}
+use Rattle.bodies.specs.Code.{body_answer}
 use Rattle.bodies.specs.Refusals.{length_refused, field_refused}
 use Rattle.bodies.specs.Document01.{old_length_refused, old_operand_kept, old_operand_refused, old_field_refused}
 use Rattle.bodies.proofs.Picks.{both_left, both_right, neither_left, neither_right}
-use Rattle.bodies.proofs.OperandPlaces.{masked_first, masked_step, place_unmasked}
-use Rattle.bodies.proofs.Lengths.{extended_is}
+use Rattle.bodies.proofs.OperandPlaces.{place_unmasked}
 use Rattle.bodies.proofs.OldKept.{old_kept}
 
 -- an operand that is stored and not refused has a kind up to 16, so no mask

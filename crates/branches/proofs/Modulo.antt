@@ -1,6 +1,6 @@
 -- Integers modulo 2^32: sums can be taken before or after.
 -- Assumes nothing.
-use Rattle.std.proofs.Common.{◌≡◌, ℕ, suc, ◌+◌, ◌-◌, ◌%◌, ◌^◌, ℤ, pos, negsuc, ◌+ℤ◌, sym, refl, ap, ◌∙◌, mod-lt, arith, lit<, le-ltb, lt-ltb}
+use Rattle.std.proofs.Common.{◌≡◌, ℕ, suc, ◌+◌, ◌-◌, ◌%◌, ◌^◌, ℤ, pos, negsuc, ◌+ℤ◌, refl, ap, ◌∙◌, mod-lt, arith, lit<, le-ltb, lt-ltb}
 use native.Mathlib.Decide.{dec_lt}
 use lib.IntN.{sub_ℕ}
 use Rattle.branches.specs.Sums.{signed, modulo, target_of}

@@ -1,6 +1,6 @@
 -- The branch sums in the form that the code computes: unsigned sums, and sizes counted back from 2 ^ w.
 -- Assumes nothing.
-use Rattle.std.proofs.Common.{◌≡◌, ℕ, suc, ◌+◌, ◌-◌, ◌%◌, ◌^◌, ◌<◌, ◌≤◌, true, false, ℤ, pos, negsuc, ◌+ℤ◌, ap, ◌∙◌, arith, le-ltb, lt-ltb}
+use Rattle.std.proofs.Common.{◌≡◌, ℕ, suc, ◌+◌, ◌-◌, ◌%◌, ◌^◌, ◌<◌, ◌≤◌, true, false, pos, negsuc, ◌+ℤ◌, ap, ◌∙◌, arith, le-ltb, lt-ltb}
 use Rattle.branches.specs.Sums.{signed}
 use Rattle.branches.specs.Code.{parts, parted}
 

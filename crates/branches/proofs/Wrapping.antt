@@ -1,7 +1,7 @@
 -- "The sum wraps in the width of the distance": the lowest w bits of value plus length, read as signed, are a number of w signed
 -- bits, and are distance plus length itself, or that less 2 ^ w.
 -- Assumes nothing.
-use Rattle.std.proofs.Common.{◌≡◌, ℕ, zero, suc, ◌+◌, ◌-◌, ◌%◌, ◌^◌, ◌<◌, ◌≤◌, Bool, true, false, cond, ltb, ◌⊎◌, ℤ, pos, negsuc, ◌+ℤ◌, ◌-ℤ◌, neg_ℤ, sym, refl, ap, ◌∙◌, inl, inr, mod-lt, mod-eq_of_lt, arith, lit<, le-ltb, lt-ltb}
+use Rattle.std.proofs.Common.{◌≡◌, ℕ, zero, suc, ◌+◌, ◌-◌, ◌%◌, ◌^◌, ◌<◌, ◌≤◌, ◌⊎◌, ℤ, pos, negsuc, ◌+ℤ◌, ◌-ℤ◌, sym, refl, ap, ◌∙◌, inl, inr, mod-lt, mod-eq_of_lt, arith, lit<, le-ltb, lt-ltb}
 use native.Mathlib.Nat.{mod-eq-sub-mod, mod-add-mod}
 use native.Mathlib.Decide.{dec_lt}
 use lib.IntN.{sub_ℕ}

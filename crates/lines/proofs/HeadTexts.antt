@@ -5,6 +5,7 @@ use mathlib.Core.Bool.{Bool, true, false, cond, not, ◌&&◌, ◌||◌, true≢
 use mathlib.Core.List.{List, [], ◌∷◌, ◌++◌}
 use Prim.Native.Nat.{ℕ, ◌/◌, ◌%◌}
 use lib.Dec.{eqb}
+use borrow.Author.Rules.{rules}
 use Rattle.text.specs.Choice.{when}
 use Rattle.text.specs.Words.{bytes}
 use Rattle.names.specs.Opcodes.{opcodes, mnemonics, mnemonic}
@@ -72,6 +73,12 @@ module _ (opcode : ℕ) {arm : Arm} where
 -- the arms that print another name than the opcode's own
 abbrev pub renamed : List Arm
 renamed = Jmpf ∷ Callf ∷ Feni ∷ Fdisi ∷ Fsetpm ∷ []
+
+-- an arm that is none of these is not among them
+pub not_renamed :
+    (arm : Arm) → (arm ≡ Jmpf → ⊥) → (arm ≡ Callf → ⊥) → (arm ≡ Feni → ⊥) → (arm ≡ Fdisi → ⊥) → (arm ≡ Fsetpm → ⊥) →
+    is_one_of arm renamed ≡ false
+not_renamed arm jmpf callf feni fdisi fsetpm = search rules
 
 -- of five choices none is made
 last :

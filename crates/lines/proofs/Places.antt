@@ -1,6 +1,6 @@
 -- What a place shows of a record, and its text, case by case.
 -- Assumes nothing.
-use mathlib.Core.Path.{◌≡◌, refl, sym, ap, subst, ◌∙◌}
+use mathlib.Core.Path.{◌≡◌, refl, sym, ap, ◌∙◌}
 use mathlib.Core.Bool.{Bool, true, false, cond, not, ◌&&◌, not-not}
 use mathlib.Core.List.{List, [], ◌∷◌, ◌++◌, append-nil, append_assoc}
 use Prim.Native.Nat.{ℕ, zero, suc, ◌+◌, ◌≤◌, ◌<◌}
@@ -8,14 +8,11 @@ use native.Mathlib.Omega.{arith}
 use lib.Dec.{eqb, ltb}
 use lib.ListN.{get_or, get_or-map}
 use borrow.Author.Tests.{eq-eqb, ne_eqb}
-use types.Run.{OneOf}
-use denote.Enum.Declared.{tag_of}
 use Rattle.text.specs.Words.{bytes}
 use Rattle.numerals.specs.Numerals.{numeral}
 use Rattle.names.specs.Labels.{labels, label_word}
 use Rattle.names.specs.Registers.{register_name}
 use Rattle.names.specs.declared.Arm.{Arm}
-use Rattle.names.proofs.ArmGroups.{not_one_of}
 use Rattle.operands.specs.Kinds.{is_absent, is_register, is_memory}
 use Rattle.operands.specs.Parts.{starting_at, operand_in, shown_of, segment_of, register_of, immediate_kind, immediate_of, mask_of, bare}
 use Rattle.operands.specs.RegisterBytes.{st0}
@@ -27,7 +24,6 @@ use Rattle.operands.specs.declared.Label.{Label}
 use Rattle.operands.specs.declared.Label.TheVariants.{None}
 use Rattle.operands.specs.declared.Operand.{Operand}
 use Rattle.operands.specs.declared.Operand.TheVariants as operand
-use Rattle.operands.specs.contracts.Shown.{the_type}
 use Rattle.operands.specs.declared.Shown.{Shown}
 use Rattle.operands.specs.declared.Shown.TheVariants as shown
 use Rattle.operands.specs.declared.Shown.TheVariants.{Name, St, Branch}
@@ -231,18 +227,17 @@ module _ (mode : Mode) (arm : Arm) (start : ℕ) (body : List ℕ) {o : Operand}
   unfolding instruction_of
   branch_is op k v l e = rw (e, k, v, l, op)
 
--- it is a branch: its tag is none of those of what else is shown
-abbrev other_tags : List ℕ
-other_tags = 0 ∷ 1 ∷ 2 ∷ 3 ∷ 4 ∷ 5 ∷ 6 ∷ []
-
-pub branch_tag : (mode : Mode) (arm : Arm) (i : Instruction) {s : Shown} → branch_of mode arm i ≡ s → OneOf other_tags (tag_of the_type s) → ⊥
+-- it is a sum or a target, and nothing else is shown
+pub branch_other :
+    (mode : Mode) (arm : Arm) (i : Instruction) {s : Shown} →
+    branch_of mode arm i ≡ s →
+    ((word : BranchWord) (minus : Bool) (size : ℕ) → s ≡ Branch word minus size → ⊥) →
+    ((word : BranchWord) (target : ℕ) → s ≡ shown.Target word target → ⊥) →
+    ⊥
 unfolding branch_shown
-branch_tag mode arm i e o = by mode (subst (λ (x : Shown). OneOf other_tags (tag_of the_type x)) (sym e) o)
-  where
-    by : (m : Mode) → OneOf other_tags (tag_of the_type (branch_of m arm i)) → ⊥
-    by Crate o = not_one_of 7 other_tags tt o
-    by Straight o = not_one_of 7 other_tags tt o
-    by Target o = not_one_of 8 other_tags tt o
+branch_other Crate arm i e sum target = sum _ _ _ (sym e)
+branch_other Straight arm i e sum target = sum _ _ _ (sym e)
+branch_other Target arm i e sum target = target _ _ (sym e)
 
 pub text_branch : {s : Shown} {word : BranchWord} {minus : Bool} {size : ℕ} → s ≡ Branch word minus size → shown_text s ≡ branch_text word minus size
 unfolding shown_text

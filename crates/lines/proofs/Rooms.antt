@@ -55,6 +55,7 @@ register_within false false = lit≤ tt
 branch_within : (b c : Bool) → T c → 23 ≤ cond b 63 (cond c 23 7)
 branch_within true c t = lit≤ tt
 branch_within false true t = lit≤ tt
+branch_within false false t = elim t [ ]
 
 -- the shares of four places, with the longest head and tail and a newline
 shares : (count : ℕ) → count ≤ 4 → 57 + (share count 0 + share count 1 + share count 2 + share count 3) ≤ 9 * (16 + 5 * count)

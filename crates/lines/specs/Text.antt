@@ -1,6 +1,6 @@
 -- The text of what a line shows: prefix words, mnemonic and suffix, operands, tail.
 -- Assumes nothing.
-use Rattle.std.specs.Prelude.{Bool, true, false, List, [], ◌++◌, ℕ, zero, suc}
+use Rattle.std.specs.Prelude.{Bool, true, false, List, [], ◌++◌, ℕ}
 use Rattle.text.specs.Choice.{when}
 use Rattle.text.specs.Words.{bytes}
 use Rattle.names.specs.Opcodes.{mnemonic}

@@ -1,7 +1,7 @@
 -- Several arms of a `match` that answer alike: what the code is told there is that the arm's tag is one of some tags, and a
 -- definition that has one value at each of these arms has it at the arm.
 -- Assumes nothing.
-use mathlib.Core.Path.{◌≡◌, refl, sym, ap, ◌∙◌}
+use mathlib.Core.Path.{◌≡◌, refl, ap, ◌∙◌}
 use mathlib.Core.Logic.{inl, inr}
 use mathlib.Core.Bool.{Bool, true, false, cond, beq, not, ◌&&◌}
 use mathlib.Core.List.{List, [], ◌∷◌, ◌++◌, map}
@@ -19,7 +19,6 @@ use Rattle.text.proofs.Tables.{both_left, both_right}
 use Rattle.names.specs.contracts.Arm.{the_type}
 use Rattle.names.proofs.ArmNumbers.{arm_at}
 use Rattle.names.specs.declared.Arm.{Arm}
-use Rattle.names.specs.declared.Arm.TheVariants as arm
 use Rattle.names.specs.Among.{is_one_of}
 
 -- the place of an arm in the declaration, which the code goes by

@@ -5,7 +5,7 @@ use mathlib.Core.List.{List, [], ◌∷◌, map}
 use Prim.Native.Nat.{ℕ, zero, suc, ◌≤◌, ◌<◌}
 use native.Mathlib.Decide.{dec_lt}
 use native.Mathlib.Omega.{arith}
-use lib.ListN.{get_or, length, get_or-map, get_or-eq_default}
+use lib.ListN.{get_or, get_or-map, get_or-eq_default}
 use Rattle.names.specs.declared.Arm.{Arm}
 use Rattle.names.specs.declared.Arm.TheVariants as arm
 use Rattle.names.specs.Opcodes.{arms, arm_of, number, opcodes}

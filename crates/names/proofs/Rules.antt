@@ -12,7 +12,6 @@ use Rattle.text.specs.Words.{every, ascend, distinct, empty, starts}
 use Rattle.text.proofs.Tables.{both_left, both_right, so, every_at, distinct_at}
 use Rattle.names.specs.Opcodes.{mnemonics, mnemonic, opcodes}
 use Rattle.names.specs.Registers.{segments, segment_name, registers, register_name}
-use Rattle.names.specs.Labels.{labels}
 use Rattle.names.specs.Rules.{letter, register_letter, name_of, names_rule, ascend_at_words, registers_rule}
 
 -- the tables

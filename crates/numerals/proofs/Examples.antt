@@ -1,9 +1,8 @@
 -- Worked numbers, computed from the definitions.
 -- Assumes nothing.
 use mathlib.Core.Path.{◌≡◌, refl}
-use mathlib.Core.List.{List, [], ◌∷◌}
-use Prim.Native.Nat.{ℕ}
-use lib.IntN.{ℤ, pos, negsuc}
+use mathlib.Core.List.{[], ◌∷◌}
+use lib.IntN.{pos, negsuc}
 use Rattle.text.specs.Words.{bytes}
 use Rattle.numerals.specs.Digits.{digit, digits, places_from, places}
 use Rattle.numerals.specs.Numerals.{figure, numeral, displacement, absolute}

@@ -2,8 +2,6 @@
 -- Assumes nothing.
 use Rattle.arms.proofs.decorations.broadcast_as.Goals as goal
 
--- `arms::decorations::broadcast_as` meets its contract: at each return the place is known.
--- Assumes nothing.
 pub returns-in-Register : goal.returns-in-Register
 returns-in-Register c = rw c.in-Register.is
 

@@ -8,8 +8,6 @@ use Rattle.arms.proofs.Results.{results_equal}
 use Rattle.arms.proofs.Over16.{plan_over, no_broadcast}
 use Rattle.arms.proofs.decorations.broadcast_refused.Goals as goal
 
--- `arms::decorations::broadcast_refused` meets its contract: with flag bit 6 the plan tells it, and without it nothing is refused.
--- Assumes nothing.
 pub returns-then-is_broadcast : goal.returns-then-is_broadcast
 returns-then-is_broadcast c = let i = instruction_of (fields_by c.args.front c.args.rest.now) in
     c.plan_over_16.ensures ∙ ap (plan_over16 i) c.requires.plan_value ∙ plan_over c.args.arm i

@@ -4,8 +4,6 @@ use Rattle.arms.proofs.Cases.{lowest_bit}
 use borrow.Author.Tests.{eq-eqb, ne_eqb}
 use Rattle.arms.proofs.decorations.by_bits.Goals as goal
 
--- `arms::decorations::by_bits` meets its contract: at each return the bits that were tested are known.
--- Assumes nothing.
 pub returns-then-bits-eq1 : goal.returns-then-bits-eq1
 returns-then-bits-eq1 c = rw (lowest_bit, eq-eqb _ _ c.if-bits-eq1.true)
 

@@ -4,8 +4,6 @@ use mathlib.Core.Path.{refl}
 use Rattle.bodies.specs.Decoding.{instruction_of}
 use Rattle.arms.proofs.decorations.is_broadcast.Goals as goal
 
--- `arms::decorations::is_broadcast` meets its contract: bit 6 of the flags.
--- Assumes nothing.
 pub returns : goal.returns
 unfolding instruction_of
 returns c = refl

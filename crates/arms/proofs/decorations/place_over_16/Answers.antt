@@ -4,8 +4,6 @@ use borrow.Author.Tests.{lt-ltb, le-ltb}
 use Rattle.bodies.proofs.Counted.{operand_in_lem}
 use Rattle.arms.proofs.decorations.place_over_16.Goals as goal
 
--- `arms::decorations::place_over_16` meets its contract: at each return, what was called ensures and what was tested give the definition's case.
--- Assumes nothing.
 pub returns-in-None : goal.returns-in-None
 returns-in-None c = rw (c.in-Operand.is, c.in-None.is)
 

@@ -3,8 +3,6 @@
 use borrow.Author.Tests.{eq-eqb}
 use Rattle.arms.proofs.decorations.rounding_of.Goals as goal
 
--- `arms::decorations::rounding_of` meets its contract: at each return the bits are known.
--- Assumes nothing.
 pub returns-in-0 : goal.returns-in-0
 returns-in-0 c = rw (eq-eqb _ _ c.in-0.is)
 

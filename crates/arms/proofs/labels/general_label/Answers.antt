@@ -1,10 +1,9 @@
 -- `arms::labels::general_label` meets its contract: at each return, what was called ensures and what was tested give the definition's case.
 -- Assumes nothing.
 use Rattle.arms.specs.Labels.{size_label, general_label}
+use borrow.Author.Rules.{rules}
 use Rattle.arms.proofs.labels.general_label.Goals as goal
 
--- `arms::labels::general_label` meets its contract: at each return, what was called ensures and what was tested give the definition's case.
--- Assumes nothing.
 pub returns-in-63 : goal.returns-in-63
 unfolding general_label size_label
 returns-in-63 c = rw c.in-63.is
@@ -28,3 +27,7 @@ returns-then-fword c = rw (c.if-fword.true, c.in-6.is)
 pub returns-else-fword : goal.returns-else-fword
 unfolding general_label size_label
 returns-else-fword c = rw (c.if-fword.false, c.in-6.is)
+
+pub returns-in_default : goal.returns-in_default
+unfolding general_label size_label
+returns-in_default c = search rules

@@ -1,10 +1,9 @@
 -- `arms::labels::size_label` meets its contract: at each return, what was called ensures and what was tested give the definition's case.
 -- Assumes nothing.
 use Rattle.arms.specs.Labels.{size_label}
+use borrow.Author.Rules.{rules}
 use Rattle.arms.proofs.labels.size_label.Goals as goal
 
--- `arms::labels::size_label` meets its contract: at each return, what was called ensures and what was tested give the definition's case.
--- Assumes nothing.
 pub returns-in-1 : goal.returns-in-1
 unfolding size_label
 returns-in-1 c = rw c.in-1.is
@@ -32,3 +31,7 @@ returns-in-32 c = rw c.in-32.is
 pub returns-in-64 : goal.returns-in-64
 unfolding size_label
 returns-in-64 c = rw c.in-64.is
+
+pub returns-in_default : goal.returns-in_default
+unfolding size_label
+returns-in_default c = search rules

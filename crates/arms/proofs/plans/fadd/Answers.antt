@@ -5,8 +5,6 @@ use Rattle.arms.specs.Plans.{places_of}
 use Rattle.bodies.specs.Decoding.{instruction_of}
 use Rattle.arms.proofs.plans.fadd.Goals as goal
 
--- `arms::plans::fadd` meets its contract: at each return, what was called ensures and what was tested give the definition's case.
--- Assumes nothing.
 pub returns-then-is_memory_at : goal.returns-then-is_memory_at
 unfolding places_of instruction_of
 returns-then-is_memory_at c = rw (c.one.ensures, c.labelled.ensures, c.size_label.ensures, c.size.ensures, results_equal c.is_memory_at.ensures c.if-is_memory_at.true)

@@ -4,8 +4,6 @@ use mathlib.Core.Bool.{false}
 use borrow.Author.Tests.{eq-eqb, ne_eqb}
 use Rattle.arms.proofs.plans.is_mmword.Goals as goal
 
--- `arms::plans::is_mmword` meets its contract: at each return, what was called ensures and what was tested give the definition's case.
--- Assumes nothing.
 pub returns-in-Qword : goal.returns-in-Qword
 returns-in-Qword c = rw (c.in-Qword.is, eq-eqb _ _ c.if-size-eq8.true)
 

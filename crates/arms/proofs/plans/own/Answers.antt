@@ -5,6 +5,7 @@ use Rattle.places.specs.declared.Place.TheVariants as place
 use Rattle.bodies.specs.Decoding.{instruction_of}
 use Rattle.arms.specs.Plans.{places_of}
 use Rattle.arms.proofs.GeneralPath.{own_lsl}
+use borrow.Author.Rules.{rules}
 use Rattle.arms.proofs.plans.own.Goals as goal
 
 pub returns-in-Hreset : goal.returns-in-Hreset
@@ -79,3 +80,15 @@ returns-in-Fbld c = rw (c.one-in-Fbld.ensures, c.tbyte_label.ensures, c.requires
 pub returns-in-Fbstp : goal.returns-in-Fbstp
 unfolding places_of instruction_of
 returns-in-Fbstp c = rw (c.one-in-Fbstp.ensures, c.labelled-in-Fbstp.ensures, c.tbyte_label-in-Fbstp.ensures, c.requires.size_value, c.in-Fbstp.is)
+
+pub returns-in-Branch : goal.returns-in-Branch
+unfolding places_of instruction_of
+returns-in-Branch c = search rules
+
+pub returns-in-Monitor : goal.returns-in-Monitor
+unfolding places_of
+returns-in-Monitor c = search rules
+
+pub returns-in_default : goal.returns-in_default
+unfolding places_of
+returns-in_default c = search rules

@@ -7,8 +7,6 @@ use Rattle.arms.proofs.Mmword.{general_at_8}
 use Rattle.arms.proofs.Over16.{plan_of-general, plan_of_old, plan_of_own}
 use Rattle.arms.proofs.plans.plan_of.Goals as goal
 
--- `arms::plans::plan_of` meets its contract: a record that takes the general path has that path's plan, with broadcasts and tail where it is extended.
--- Assumes nothing.
 pub own-requires : goal.own-requires
 own-requires c = record { whole = c.requires.whole; size_value = c.size-size.ensures; rest_value = results_equal c.is_general.ensures c.if-is_general.false }
 

@@ -2,7 +2,5 @@
 -- Assumes nothing.
 use Rattle.arms.proofs.shapes.fbld_refused.Goals as goal
 
--- `arms::shapes::fbld_refused` meets its contract: at each return, what was called ensures and what was tested give the definition's case.
--- Assumes nothing.
 pub returns : goal.returns
 returns c = rw (c.is_memory_at.ensures, c.is_register_m_at.ensures)

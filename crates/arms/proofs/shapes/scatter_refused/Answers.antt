@@ -7,7 +7,5 @@ use Rattle.bodies.proofs.kinds.is_mask_register_at.Reads as is_mask_register_at_
 use Rattle.bodies.proofs.kinds.is_plain_memory_at.Reads as is_plain_memory_at_reads
 use Rattle.arms.proofs.shapes.scatter_refused.Goals as goal
 
--- `arms::shapes::scatter_refused` meets its contract: what is asked of the three operands.
--- Assumes nothing.
 pub returns : goal.returns
 returns c = rw (c.is_absent_at.ensures, c.is_mask_register_at.ensures, c.is_plain_memory_at.ensures)

@@ -6,11 +6,9 @@ use Rattle.names.specs.declared.Arm.{Arm}
 use Rattle.names.specs.declared.Arm.TheVariants.{Hreset, Lsl, Prefetch, Sgdt, Lss, Invlpgb, Scas, Lods, Incssp, Wrss, Pblendvb, Lea, Fcom, Fadd, Fbld, Fbstp, ScatterDword, ScatterQword}
 use Rattle.bodies.specs.Decoding.{instruction_of}
 use Rattle.arms.proofs.ByArm.{at_lsl, at_lss, at_invlpgb, at_lods, at_incssp, at_wrss, at_fcom, at_fadd, at_fbld}
+use borrow.Author.Rules.{rules}
+use Rattle.arms.specs.Shape.{shape_refused}
 use Rattle.arms.proofs.shapes.shape_refused.Goals as goal
-
-abbrev refusing : List Arm
-refusing =
-    Hreset ∷ Lsl ∷ Prefetch ∷ Sgdt ∷ Lss ∷ Invlpgb ∷ Scas ∷ Lods ∷ Incssp ∷ Wrss ∷ Pblendvb ∷ Lea ∷ Fcom ∷ Fadd ∷ Fbld ∷ Fbstp ∷ ScatterDword ∷ ScatterQword ∷ []
 
 pub returns-in-Lsl : goal.returns-in-Lsl
 unfolding instruction_of
@@ -47,3 +45,23 @@ returns-in-Fadd c = rw (c.is_absent_at-in-Fadd.ensures, c.is_absent_at-in-Fadd-2
 pub returns-in-Fbld : goal.returns-in-Fbld
 unfolding instruction_of
 returns-in-Fbld c = rw (c.fbld_refused.ensures, c.in-Fbld.is, at_fbld)
+
+pub returns-in-Hreset : goal.returns-in-Hreset
+unfolding instruction_of shape_refused
+returns-in-Hreset c = search rules
+
+pub returns-in-Sgdt : goal.returns-in-Sgdt
+unfolding instruction_of shape_refused
+returns-in-Sgdt c = search rules
+
+pub returns-in-Pblendvb : goal.returns-in-Pblendvb
+unfolding instruction_of shape_refused
+returns-in-Pblendvb c = search rules
+
+pub returns-in-ScatterDword : goal.returns-in-ScatterDword
+unfolding instruction_of shape_refused
+returns-in-ScatterDword c = search rules
+
+pub returns-in_default : goal.returns-in_default
+unfolding instruction_of shape_refused
+returns-in_default c = search rules

@@ -2,7 +2,5 @@
 -- Assumes nothing.
 use Rattle.arms.proofs.sizes.misses.Goals as goal
 
--- `arms::sizes::misses` meets its contract, place by place.
--- Assumes nothing.
 pub returns-in-Operand : goal.returns-in-Operand
 returns-in-Operand c = rw c.in-Operand.is

@@ -1,20 +1,17 @@
 -- `arms::sizes::plan_lacks` meets its contract: where no place misses its label, none lacks it; else each place is asked.
 -- Assumes nothing.
 use mathlib.Core.Path.{sym}
-use borrow.Author.Tests.{not-true}
 use Rattle.bodies.specs.Code.{fields_by}
 use Rattle.bodies.specs.Decoding.{instruction_of}
 use Rattle.arms.specs.Missing.{plan_lacks}
 use Rattle.arms.proofs.Lacking.{misses_none}
 use Rattle.arms.proofs.sizes.plan_lacks.Goals as goal
 
--- `arms::sizes::plan_lacks` meets its contract: where no place misses its label, none lacks it; else each place is asked.
--- Assumes nothing.
 pub returns-then-not-misses : goal.returns-then-not-misses
 returns-then-not-misses c = let a = c.args in
     sym
     (misses_none (instruction_of (fields_by a.front a.rest.now)) a.plan
-    (rw (← c.misses.ensures, ← c.misses-2.ensures, ← c.misses-3.ensures, ← c.misses-4.ensures) (not-true _ c.if-not-misses.true-raw)))
+    (rw (← c.misses.ensures, ← c.misses-2.ensures, ← c.misses-3.ensures, ← c.misses-4.ensures) c.if-not-misses.true))
 
 pub returns : goal.returns
 unfolding plan_lacks

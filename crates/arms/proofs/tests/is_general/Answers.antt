@@ -8,13 +8,8 @@ use Rattle.names.specs.declared.Arm.{Arm}
 use Rattle.names.specs.declared.Arm.TheVariants.{General, Qword, Mmword, Jmpf, Callf, Lds, Movs, Cmps, Singles, Doubles, Branch, Call, Xbegin, Lsl, Nop, Incssp, Wrss, Aam}
 use Rattle.bodies.specs.Decoding.{instruction_of}
 use Rattle.arms.proofs.GeneralPath.{path_of_xbegin, path_of_lsl, path_of_nop, path_of_aam}
+use borrow.Author.Rules.{rules}
 use Rattle.arms.proofs.tests.is_general.Goals as goal
-
-abbrev own : List Arm
-own = General ∷ Qword ∷ Mmword ∷ Jmpf ∷ Callf ∷ Lds ∷ Movs ∷ Cmps ∷ Singles ∷ Doubles ∷ Incssp ∷ Wrss ∷ []
-
-abbrev leaving : List Arm
-leaving = Branch ∷ Call ∷ Xbegin ∷ Lsl ∷ Nop ∷ Aam ∷ []
 
 pub returns-in-Xbegin : goal.returns-in-Xbegin
 unfolding instruction_of
@@ -31,3 +26,7 @@ returns-in-Nop c = rw (c.is_absent_at.ensures, c.in-Nop.is) (sym (path_of_nop (i
 pub returns-in-Aam : goal.returns-in-Aam
 unfolding instruction_of
 returns-in-Aam c = rw (c.imm.ensures, c.in-Aam.is) (sym (path_of_aam (instruction_of (fields_by c.args.front c.args.rest.now))))
+
+pub returns-in-Branch : goal.returns-in-Branch
+unfolding instruction_of
+returns-in-Branch c = search rules

@@ -9,8 +9,6 @@ use mathlib.Core.Path.{sym, ◌∙◌}
 use Rattle.bodies.proofs.Lengths.{bits_extended}
 use Rattle.bodies.proofs.fields.bits.Goals as goal
 
--- `bodies::fields::bits` meets its contract: the two last bytes are the ones after the operands.
--- Assumes nothing.
 pub returns-then-is_extended : goal.returns-then-is_extended
 returns-then-is_extended c = let a = c.args in let more : length (fields_by a.front a.rest.now) - 2 ≡ in_fields (length a.rest.now - 2) = omega (arith, c.requires.fixed) in sym (rw more at (bits_extended (fields_by c.args.front c.args.rest.now) c.requires (sym c.is_extended.ensures ∙ c.if-is_extended.true)))
 

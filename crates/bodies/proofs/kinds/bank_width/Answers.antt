@@ -4,8 +4,6 @@ use native.Mathlib.Omega.{arith}
 use Rattle.bodies.proofs.Widths.{bank_by, no_bank}
 use Rattle.bodies.proofs.kinds.bank_width.Goals as goal
 
--- `bodies::kinds::bank_width` meets its contract: the tests say the bank.
--- Assumes nothing.
 pub returns-then-reg-lt8 : goal.returns-then-reg-lt8
 returns-then-reg-lt8 c = rw (bank_by c.args.reg 0 (omega arith) (omega (arith, c.if-reg-lt8.true)))
 

@@ -4,8 +4,6 @@ use mathlib.Core.Path.{sym}
 use Rattle.bodies.proofs.Widths.{width_one, width_two, width_four}
 use Rattle.bodies.proofs.kinds.immediate_width.Goals as goal
 
--- `bodies::kinds::immediate_width` meets its contract: two kinds of each width.
--- Assumes nothing.
 pub returns-then-kind : goal.returns-then-kind
 returns-then-kind c = sym (width_one c.args.kind c.if-kind.true)
 

@@ -5,8 +5,6 @@ use native.Mathlib.Omega.{arith}
 use Rattle.bodies.proofs.ByKind.{operand_none, memory_by_kind}
 use Rattle.bodies.proofs.kinds.is_memory_at.Goals as goal
 
--- `bodies::kinds::is_memory_at` meets its contract: below the count the kind byte says it, and from there up there is no operand.
--- Assumes nothing.
 pub returns-then-k-count : goal.returns-then-k-count
 returns-then-k-count c = let a = c.args in rw (memory_by_kind (fields_by a.front a.rest.now) a.k (omega (arith, c.count.ensures, c.if-k-count.true)), ← c.place_at-at.ensures.result_value)
 

@@ -7,8 +7,6 @@ use borrow.Author.Tests.{le-leb, lt-leb}
 use Rattle.bodies.proofs.ByKind.{operand_none, register_byte_by_kind}
 use Rattle.bodies.proofs.kinds.register_at.Goals as goal
 
--- `bodies::kinds::register_at` meets its contract: below the count the kind byte says it, and from there up there is no operand.
--- Assumes nothing.
 pub returns-then-rest-at-le-REGISTER_M : goal.returns-then-rest-at-le-REGISTER_M
 returns-then-rest-at-le-REGISTER_M c = let a = c.args in rw (register_byte_by_kind (fields_by a.front a.rest.now) a.k (omega (arith, c.count.ensures, c.if-k-count.true)), ← c.place_at-at.ensures.result_value, in_more c.place_at-at.result 2, le-leb _ _ c.if-rest-at-le-REGISTER_M.true)
 

@@ -4,8 +4,6 @@ use native.Mathlib.Omega.{arith}
 use Rattle.bodies.proofs.Versions.{rest_least}
 use Rattle.bodies.proofs.layout.front_of.Goals as goal
 
--- `bodies::layout::front_of` meets its contract: both versions have four bytes in front.
--- Assumes nothing.
 pub bounds-body-0 : goal.bounds-body-0
 bounds-body-0 c = omega (arith, c.requires, rest_least c.args.version)
 

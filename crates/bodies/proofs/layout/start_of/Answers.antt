@@ -6,8 +6,6 @@ use Rattle.bodies.specs.Versions.{start_of}
 use Rattle.bodies.proofs.Versions.{rest_two}
 use Rattle.bodies.proofs.layout.start_of.Goals as goal
 
--- `bodies::layout::start_of` meets its contract: version 2 holds the address, after the four bytes that both versions have.
--- Assumes nothing.
 pub dword_at-requires : goal.dword_at-requires
 dword_at-requires c = omega (arith, c.requires, rest_two c.args.version c.if-version-eq2.true)
 

@@ -6,8 +6,6 @@ use mir.Facts.{to_z-of_z}
 use Rattle.bodies.proofs.Signed.{signed_fits}
 use Rattle.bodies.proofs.numbers.displacement_of.Goals as goal
 
--- `bodies::numbers::displacement_of` meets its contract: the signed number fits an i32, so it is passed on unchanged.
--- Assumes nothing.
 pub returns-then-is_displaced : goal.returns-then-is_displaced
 unfolding disp_in
 returns-then-is_displaced c = rw (c.signed_of.ensures, sym c.is_displaced.ensures ∙ c.if-is_displaced.true)

@@ -4,8 +4,6 @@ use Rattle.bodies.specs.Decoding.{immediate}
 use borrow.Author.Tests.{eq-eqb, ne_eqb, lt-ltb, le-ltb}
 use Rattle.bodies.proofs.numbers.immediate_of.Goals as goal
 
--- `bodies::numbers::immediate_of` meets its contract: each `return` is the case that its tests cond.
--- Assumes nothing.
 pub returns-then-low-lt128 : goal.returns-then-low-lt128
 unfolding immediate
 returns-then-low-lt128 c = rw (eq-eqb _ _ c.if-kind-eq3.true, lt-ltb _ _ c.if-low-lt128.true)

@@ -6,8 +6,6 @@ use Rattle.bodies.proofs.Signed.{signed_to_z}
 use Prim.Native.Nat.{◌-◌, ◌^◌}
 use Rattle.bodies.proofs.numbers.signed_of.Goals as goal
 
--- `bodies::numbers::signed_of` meets its contract: two complements give the bits back.
--- Assumes nothing.
 pub returns-then-bits-lt2147483648 : goal.returns-then-bits-lt2147483648
 returns-then-bits-lt2147483648 c = let a = c.args in rw (signed_to_z a.bits (omega arith))
 

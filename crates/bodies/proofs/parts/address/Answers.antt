@@ -6,8 +6,6 @@ use mir.Facts.{to_z-of_z}
 use Rattle.bodies.proofs.Signed.{displacement_fits}
 use Rattle.bodies.proofs.parts.address.Goals as goal
 
--- `bodies::parts::address` meets its contract: each `return` is the bracket of its kinds, and the displacement fits its field.
--- Assumes nothing.
 pub returns-then-kind-le12 : goal.returns-then-kind-le12
 unfolding address_of
 returns-then-kind-le12 c = rw (le-leb _ _ c.if-kind-le12.true, c.is_displaced-displaced.ensures, c.displacement_of-moved.ensures, to_z-of_z (displacement_fits c.args.kind c.args.disp c.ranges.disp))

@@ -4,8 +4,6 @@ use Rattle.bodies.specs.Decoding.{operand_of}
 use borrow.Author.Tests.{le-leb, lt-leb}
 use Rattle.bodies.proofs.parts.operand.Goals as goal
 
--- `bodies::parts::operand` meets its contract: each `return` is the operand that its tests tell.
--- Assumes nothing.
 pub returns-then-kind-le2 : goal.returns-then-kind-le2
 unfolding operand_of
 returns-then-kind-le2 c = rw (le-leb _ _ c.if-kind-le2.true)

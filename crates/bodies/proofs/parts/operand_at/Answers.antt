@@ -15,9 +15,6 @@ use Rattle.bodies.proofs.Lengths.{length_least}
 use Rattle.bodies.proofs.OldKept.{old_kept}
 use Rattle.bodies.proofs.parts.operand_at.Goals as goal
 
--- `bodies::parts::operand_at` meets its contract: below the count the operand's bytes are there, at document 01's place where the record
--- is not extended.
--- Assumes nothing.
 pub bounds-rest-at : goal.bounds-rest-at
 bounds-rest-at c = omega (arith, length_least (fields_by c.args.front c.args.rest.now) c.requires, c.count.ensures, c.if-k-count.true)
 

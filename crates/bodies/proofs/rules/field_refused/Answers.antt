@@ -5,11 +5,8 @@ use mathlib.Core.Path.{refl, ap}
 use Prim.Native.Nat.{ℕ}
 use lib.Dec.{leb}
 use Rattle.bodies.specs.Refusals.{field_refused}
-use borrow.Author.Rules.{rules}
 use Rattle.bodies.proofs.rules.field_refused.Goals as goal
 
--- `bodies::rules::field_refused` meets its contract: each test is what its callee says.
--- Assumes nothing.
 pub operand_refused-a-requires : goal.operand_refused-a-requires
 operand_refused-a-requires c = record { whole = c.requires; extended_value = c.is_extended-extended.ensures; scatters_value = ap (λ (n : ℕ). leb 154 n && leb n 157) c.opcode-opcode.ensures }
 

@@ -2,11 +2,8 @@
 -- Assumes nothing.
 use Rattle.bodies.specs.Refusals.{first_kept}
 use borrow.Author.Tests.{le-leb, lt-leb}
-use borrow.Author.Rules.{rules}
 use Rattle.bodies.proofs.rules.first_kept.Goals as goal
 
--- `bodies::rules::first_kept` meets its contract: the tests say how the form uses the byte.
--- Assumes nothing.
 pub returns-then-form-le2 : goal.returns-then-form-le2
 unfolding first_kept
 returns-then-form-le2 c = rw (le-leb _ _ c.if-form-le2.true) c.register_kept.ensures

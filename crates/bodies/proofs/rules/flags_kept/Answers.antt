@@ -2,8 +2,6 @@
 -- Assumes nothing.
 use Rattle.bodies.proofs.rules.flags_kept.Goals as goal
 
--- `bodies::rules::flags_kept` meets its contract: bit 6 is free in an extended record.
--- Assumes nothing.
 pub returns-then-extended : goal.returns-then-extended
 returns-then-extended c = rw c.if-extended.true
 

@@ -6,11 +6,8 @@ use Prim.Native.Nat.{◌+◌, ◌*◌}
 use borrow.Author.Tests.{lt-ltb, le-ltb, eq-eqb, ne_eqb}
 use lib.ListN.{length}
 use Rattle.bodies.specs.Body.{count_of}
-use borrow.Author.Rules.{rules}
 use Rattle.bodies.proofs.rules.is_old.Goals as goal
 
--- `bodies::rules::is_old` meets its contract: the tests say whether the length is document 01's, and its fields are asked then.
--- Assumes nothing.
 pub returns-then-rest-lt10 : goal.returns-then-rest-lt10
 returns-then-rest-lt10 c = let a = c.args in rw (lt-ltb (length (fields_by a.front a.rest.now)) 14 (omega (arith, c.if-rest-lt10.true)))
 

@@ -7,8 +7,6 @@ use Prim.Native.Nat.{◌-◌, ◌≤◌}
 use Rattle.bodies.specs.Body.{any_masked}
 use Rattle.bodies.proofs.rules.length_refused.Given as goal
 
--- `bodies::rules::length_refused` meets its contract: while none has a mask, operand k stands after five bytes for each.
--- Assumes nothing.
 abbrev pub invariant-loop-k : goal.invariant-loop-k
 invariant-loop-k l = (any_masked (fields_by l.front l.rest) l.k ≡ false) × (l.k ≤ l.count)
 

@@ -3,8 +3,6 @@
 use borrow.Author.Tests.{le-leb, lt-leb}
 use Rattle.bodies.proofs.rules.old_first_kept.Goals as goal
 
--- `bodies::rules::old_first_kept` meets its contract: the tests say how the kind uses the byte.
--- Assumes nothing.
 pub returns-then-kind-le2 : goal.returns-then-kind-le2
 returns-then-kind-le2 c = rw (le-leb _ _ c.if-kind-le2.true)
 

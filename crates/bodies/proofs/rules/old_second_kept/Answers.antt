@@ -3,8 +3,6 @@
 use borrow.Author.Tests.{le-leb, lt-leb}
 use Rattle.bodies.proofs.rules.old_second_kept.Goals as goal
 
--- `bodies::rules::old_second_kept` meets its contract: the test says whether the kind uses the byte.
--- Assumes nothing.
 pub returns-then-kind-ge15 : goal.returns-then-kind-ge15
 returns-then-kind-ge15 c = rw (le-leb _ _ c.if-kind-ge15.true)
 

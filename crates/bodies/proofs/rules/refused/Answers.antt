@@ -2,18 +2,14 @@
 -- Assumes nothing.
 use Rattle.bodies.specs.Code.{fields_by}
 use mathlib.Core.Path.{◌≡◌, sym, ◌∙◌}
-use mathlib.Core.Bool.{true, false, not, ◌&&◌}
+use mathlib.Core.Bool.{true, not, ◌&&◌}
 use borrow.Author.Tests.{not-true}
-use Rattle.bodies.specs.Refusals.{length_refused}
 use Rattle.bodies.specs.Document01.{old_length_refused, old_field_refused}
 use Rattle.bodies.proofs.Picks.{both_left, both_right}
 use Rattle.bodies.proofs.Lengths.{whole}
 use Rattle.bodies.proofs.OldAccepted.{old_answer, answer_length, answer_field, answer_neither}
-use borrow.Author.Rules.{rules}
 use Rattle.bodies.proofs.rules.refused.Goals as goal
 
--- `bodies::rules::refused` meets its contract: what document 01 alone keeps is not refused; else the two answers are asked in their order.
--- Assumes nothing.
 pub returns-then-is_old : goal.returns-then-is_old
 returns-then-is_old c = let body = fields_by c.args.front c.args.rest.now in
     let both : (not (old_length_refused body) && not (old_field_refused body)) ≡ true = sym c.is_old.ensures ∙ c.if-is_old.true in

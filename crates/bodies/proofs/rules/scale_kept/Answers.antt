@@ -4,8 +4,6 @@ use Rattle.bodies.specs.Refusals.{scale_kept}
 use borrow.Author.Tests.{le-leb, lt-leb}
 use Rattle.bodies.proofs.rules.scale_kept.Goals as goal
 
--- `bodies::rules::scale_kept` meets its contract: the test says whether the form uses the byte.
--- Assumes nothing.
 pub returns-then-form-ge13 : goal.returns-then-form-ge13
 unfolding scale_kept
 returns-then-form-ge13 c = rw (le-leb _ _ c.if-form-ge13.true)

@@ -4,8 +4,6 @@ use Rattle.bodies.specs.Refusals.{segment_kept}
 use borrow.Author.Tests.{le-leb, lt-leb}
 use Rattle.bodies.proofs.rules.segment_kept.Goals as goal
 
--- `bodies::rules::segment_kept` meets its contract: the test says whether the form uses the byte.
--- Assumes nothing.
 pub returns-then-form-ge9 : goal.returns-then-form-ge9
 unfolding segment_kept
 returns-then-form-ge9 c = rw (le-leb _ _ c.if-form-ge9.true)

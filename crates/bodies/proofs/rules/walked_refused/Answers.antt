@@ -3,7 +3,7 @@ use lib.ListN.{length}
 use Rattle.bodies.specs.Code.{fields_by, in_fields}
 use mathlib.Core.Bool.{Bool, true, false, ◌||◌}
 use mathlib.Core.Path.{◌≡◌, sym, ap, ap₂, ◌∙◌}
-use Prim.Native.Nat.{ℕ, ◌+◌, ◌-◌}
+use Prim.Native.Nat.{ℕ, ◌+◌}
 use native.Mathlib.Omega.{arith}
 use Rattle.operands.specs.Kinds.{is_masked}
 use Rattle.frames.specs.Numbers.{byte}

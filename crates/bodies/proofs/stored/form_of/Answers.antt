@@ -7,8 +7,6 @@ use lib.Dec.{leb}
 use Rattle.bodies.proofs.Picks.{both_left}
 use Rattle.bodies.proofs.stored.form_of.Goals as goal
 
--- `bodies::stored::form_of` meets its contract: a masked kind is at least 17.
--- Assumes nothing.
 pub overflow_sub-result : goal.overflow_sub-result
 overflow_sub-result c = let kind = c.args.kind in omega (arith, leb-true 17 kind (both_left (leb 17 kind) (leb kind 22) (sym c.is_masked.ensures ∙ c.if-is_masked.true)))
 

@@ -13,8 +13,6 @@ use Rattle.bodies.proofs.OperandPlaces.{size_least, place_most}
 use Rattle.bodies.proofs.Lengths.{place_within, mask_within}
 use Rattle.bodies.proofs.stored.mask_at.Goals as goal
 
--- `bodies::stored::mask_at` meets its contract: the mask is the operand's sixth byte.
--- Assumes nothing.
 pub bounds-rest-at : goal.bounds-rest-at
 bounds-rest-at c = let b = fields_by c.args.front c.args.rest.now in let k = c.args.k in omega (arith, c.requires.at_value, place_within b c.requires.whole k c.requires.k_bound, size_least (kind_at b k))
 

@@ -7,8 +7,6 @@ use Rattle.bodies.proofs.OperandPlaces.{size_least}
 use Rattle.bodies.proofs.Lengths.{place_within, place_by_length}
 use Rattle.bodies.proofs.stored.place_at.Goals as goal
 
--- `bodies::stored::place_at` meets its contract: where there is no room for a mask, each operand before it has five bytes.
--- Assumes nothing.
 pub returns-then-rest-byte_at : goal.returns-then-rest-byte_at
 returns-then-rest-byte_at c = let b = fields_by c.args.front c.args.rest.now in let k = c.args.k in let e = place_by_length b c.requires.whole k c.requires.k_bound (omega (arith, c.if-rest-byte_at.true, c.byte_at.ensures.value)) in record { result_value = omega (arith, e); result_in_bounds = omega (arith, e, place_within b c.requires.whole k c.requires.k_bound, size_least (kind_at b k)) }
 

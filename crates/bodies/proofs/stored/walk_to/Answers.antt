@@ -2,7 +2,7 @@ use Rattle.bodies.proofs.InRest.{in_more}
 use Rattle.frames.specs.Numbers.{byte}
 use Rattle.bodies.specs.Code.{fields_by, in_fields}
 use mathlib.Core.Path.{◌≡◌, sym, ap, ◌∙◌}
-use Prim.Native.Nat.{ℕ, ◌-◌}
+use Prim.Native.Nat.{ℕ}
 use native.Mathlib.Omega.{arith}
 use Rattle.bodies.specs.Body.{operand_size, place_after, place_of, kind_at}
 use Rattle.bodies.proofs.OperandPlaces.{size_least, place_first, place_step, place_most}

@@ -7,8 +7,6 @@ use Rattle.names.specs.Registers.{register_name}
 use Rattle.lines.specs.Brackets.{base_text}
 use Rattle.lines.proofs.bracket.put_base.Goals as goal
 
--- `lines::bracket::put_base` meets its contract, by its one test.
--- Assumes nothing.
 pub put_register-requires : goal.put_register-requires
 unfolding base_text
 put_register-requires c = record { register_table = c.requires.register_table; room = room_as (when-wanted (register_name c.args.base) c.if-based.true) c.requires.room }

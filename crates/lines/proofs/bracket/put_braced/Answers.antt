@@ -3,8 +3,6 @@
 use Rattle.text.proofs.Putting.{first, rest, and_then}
 use Rattle.lines.proofs.bracket.put_braced.Goals as goal
 
--- `lines::bracket::put_braced` meets its contract: three puts, one after the other.
--- Assumes nothing.
 pub put_register-next-requires : goal.put_register-next-requires
 put_register-next-requires c = record { register_table = c.requires.register_table; room = first _ (rest c.requires.room c.put_byte-next.ensures) }
 

@@ -6,8 +6,6 @@ use Rattle.text.proofs.Choosing.{when-wanted, when-not}
 use Rattle.lines.specs.Brackets.{indexed_text, index_text}
 use Rattle.lines.proofs.bracket.put_index.Goals as goal
 
--- `lines::bracket::put_index` meets its contract, by its one test.
--- Assumes nothing.
 pub put_indexed-requires : goal.put_indexed-requires
 unfolding index_text
 put_indexed-requires c = let a = c.args.a in record { register_table = c.requires.register_table; room = room_as (when-wanted (indexed_text a.based a.index a.scale) c.if-a.true) c.requires.room }

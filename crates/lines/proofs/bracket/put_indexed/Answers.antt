@@ -6,8 +6,6 @@ use Rattle.names.specs.Registers.{register_name}
 use Rattle.lines.specs.Brackets.{indexed_text, scale_text}
 use Rattle.lines.proofs.bracket.put_indexed.Goals as goal
 
--- `lines::bracket::put_indexed` meets its contract: three puts, one after the other.
--- Assumes nothing.
 pub put_when-next-requires : goal.put_when-next-requires
 unfolding indexed_text
 put_when-next-requires c = first (register_name c.args.index ++ scale_text c.args.scale) (c.requires.room)

@@ -5,8 +5,6 @@ use Rattle.text.proofs.Putting.{room_as, put_as, put_none}
 use Rattle.lines.proofs.Parts.{mask_some, mask_none}
 use Rattle.lines.proofs.bracket.put_mask.Goals as goal
 
--- `lines::bracket::put_mask` meets its contract: by its one test.
--- Assumes nothing.
 pub put_braced-requires : goal.put_braced-requires
 put_braced-requires c = record { register_table = c.requires.register_table; room = room_as (mask_some c.if-mask-gt0.true) c.requires.room }
 

@@ -4,8 +4,6 @@ use Rattle.text.proofs.Putting.{first, rest, and_then}
 use Rattle.lines.specs.Brackets.{mask_text, masked_text}
 use Rattle.lines.proofs.bracket.put_masked.Goals as goal
 
--- `lines::bracket::put_masked` meets its contract: the bracket, and the mask after it.
--- Assumes nothing.
 pub put_bracket-next-requires : goal.put_bracket-next-requires
 unfolding masked_text
 put_bracket-next-requires c = record { register_table = c.requires.register_table; room = first (mask_text c.args.mask) c.requires.room }

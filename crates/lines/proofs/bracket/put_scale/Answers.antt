@@ -6,8 +6,6 @@ use Rattle.numerals.specs.Digits.{digits}
 use Rattle.lines.proofs.Parts.{scale_shown, scale_hidden}
 use Rattle.lines.proofs.bracket.put_scale.Goals as goal
 
--- `lines::bracket::put_scale` meets its contract: the sign and the numeral, for a scale above 1.
--- Assumes nothing.
 pub put_bytes-next-requires : goal.put_bytes-next-requires
 put_bytes-next-requires c = first (digits 1 c.args.scale) ((room_as (scale_shown c.if-scale-gt1.true) c.requires))
 

@@ -11,8 +11,6 @@ use Rattle.text.specs.Words.{bytes}
 use Rattle.lines.proofs.Parts.{tail_shown, tail_hidden}
 use Rattle.lines.proofs.bracket.put_tail.Goals as goal
 
--- `lines::bracket::put_tail` meets its contract: the displacement between its blank and the end, or the end alone.
--- Assumes nothing.
 pub put_byte-next-requires : goal.put_byte-next-requires
 put_byte-next-requires c = first (displacement (to_z w32 (of_z w32 c.args.disp)) ++ bytes "]") ((room_as (tail_shown c.if-displaced.true (to_z-of_z w32 c.args.disp c.ranges.disp)) c.requires))
 

@@ -5,8 +5,6 @@ use Rattle.text.proofs.Putting.{put_none, room_as, put_as}
 use Rattle.lines.proofs.Parts.{broadcast_none, broadcast_to}
 use Rattle.lines.proofs.broadcast.put_broadcast.Goals as goal
 
--- `lines::broadcast::put_broadcast` meets its contract: in each case the text is that case's.
--- Assumes nothing.
 pub put_one_to-requires : goal.put_one_to-requires
 put_one_to-requires c = room_as (broadcast_to c.in-To.is) c.requires
 

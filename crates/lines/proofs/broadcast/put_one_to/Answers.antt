@@ -3,8 +3,6 @@
 use Rattle.text.proofs.Putting.{first, rest, and_then}
 use Rattle.lines.proofs.broadcast.put_one_to.Goals as goal
 
--- `lines::broadcast::put_one_to` meets its contract: three puts, one after the other.
--- Assumes nothing.
 pub put_two_digits-next-requires : goal.put_two_digits-next-requires
 put_two_digits-next-requires c = first _ (rest c.requires c.put_bytes-next.ensures)
 

@@ -5,8 +5,6 @@ use Rattle.text.proofs.Putting.{first, rest, and_then, room_as, put_as}
 use Rattle.lines.proofs.Parts.{two-digits_one, two-digits-two}
 use Rattle.lines.proofs.broadcast.put_two_digits.Goals as goal
 
--- `lines::broadcast::put_two_digits` meets its contract: one digit, or two puts.
--- Assumes nothing.
 pub put_byte-requires : goal.put_byte-requires
 put_byte-requires c = room_as (two-digits_one c.args.n c.if-n-lt10.true) c.requires
 

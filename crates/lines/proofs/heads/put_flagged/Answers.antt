@@ -5,8 +5,6 @@ use Rattle.text.proofs.Putting.{first, rest, and_then, room_as, put_as}
 use Rattle.lines.proofs.HeadTexts.{prefixes_by}
 use Rattle.lines.proofs.heads.put_flagged.Goals as goal
 
--- `lines::heads::put_flagged` meets its contract: four puts, one after the other.
--- Assumes nothing.
 pub put_when-next-requires : goal.put_when-next-requires
 put_when-next-requires c = first _ (room_as (prefixes_by c.args.arm c.args.flags c.flag.ensures refl refl) c.requires)
 

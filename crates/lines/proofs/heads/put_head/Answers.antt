@@ -5,8 +5,6 @@ use Rattle.text.proofs.Putting.{first, rest, and_then, room_as, put_as}
 use Rattle.lines.proofs.HeadTexts.{head_by}
 use Rattle.lines.proofs.heads.put_head.Goals as goal
 
--- `lines::heads::put_head` meets its contract: three puts, one after the other.
--- Assumes nothing.
 pub put_prefixes-next-requires : goal.put_prefixes-next-requires
 put_prefixes-next-requires c = first _ (room_as (head_by c.args.arm c.args.opcode c.args.flags refl) c.requires.room)
 

@@ -1,12 +1,14 @@
 -- `lines::heads::put_name` meets its contract: five arms print another name than the opcode's own, and every other prints that.
 -- Assumes nothing.
-use mathlib.Core.Path.{sym}
+use mathlib.Core.Path.{◌≡◌, sym}
 use Rattle.text.proofs.Putting.{room_as, put_as}
-use Rattle.lines.proofs.HeadTexts.{name_jmpf, name_callf, name_feni, name_fdisi, name_fsetpm}
+use Rattle.lines.proofs.HeadTexts.{name_jmpf, name_callf, name_feni, name_fdisi, name_fsetpm, name_own, not_renamed}
+use Rattle.names.specs.Opcodes.{mnemonic}
+use Rattle.lines.specs.Head.{name_of}
+use Rattle.lines.specs.Text.{name_text}
 use Rattle.lines.proofs.heads.put_name.Goals as goal
+use Rattle.lines.proofs.heads.put_name.Goals.{In_default}
 
--- `lines::heads::put_name` meets its contract: five arms print another name than the opcode's own, and every other prints that.
--- Assumes nothing.
 pub put_bytes-requires : goal.put_bytes-requires
 put_bytes-requires c = room_as (name_jmpf c.args.opcode c.in-Jmpf.is) c.requires.room
 
@@ -36,3 +38,15 @@ returns-in-Fdisi c = put_as (sym (name_fdisi c.args.opcode c.in-Fdisi.is)) c.put
 
 pub returns-in-Fsetpm : goal.returns-in-Fsetpm
 returns-in-Fsetpm c = put_as (sym (name_fsetpm c.args.opcode c.in-Fsetpm.is)) c.put_bytes-in-Fsetpm.ensures
+
+-- every other arm
+own : (c : In_default) → name_text (name_of c.args.arm c.args.opcode) ≡ mnemonic c.args.opcode
+own c =
+    name_own c.args.opcode c.args.arm
+    (not_renamed c.args.arm c.in_default.not-Jmpf c.in_default.not-Callf c.in_default.not-Feni c.in_default.not-Fdisi c.in_default.not-Fsetpm)
+
+pub put_mnemonic-requires : goal.put_mnemonic-requires
+put_mnemonic-requires c = record { mnemonic_table = c.requires.mnemonic_table; room = room_as (own (goal.at.put_mnemonic-requires c).In_default) c.requires.room }
+
+pub returns-in_default : goal.returns-in_default
+returns-in_default c = put_as (sym (own (goal.at.returns-in_default c).In_default)) c.put_mnemonic.ensures

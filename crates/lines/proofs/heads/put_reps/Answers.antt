@@ -5,8 +5,6 @@ use Rattle.text.proofs.Putting.{first, rest, and_then, room_as, put_as}
 use Rattle.lines.proofs.HeadTexts.{reps_by}
 use Rattle.lines.proofs.heads.put_reps.Goals as goal
 
--- `lines::heads::put_reps` meets its contract: two puts, one after the other.
--- Assumes nothing.
 pub put_when-next-requires : goal.put_when-next-requires
 put_when-next-requires c = first _ (room_as (reps_by c.args.arm c.args.flags c.can_rep-can.ensures c.flag-rep.ensures refl) c.requires)
 

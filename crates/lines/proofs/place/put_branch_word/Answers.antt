@@ -5,8 +5,6 @@ use Rattle.text.proofs.Putting.{put_none, room_as, put_as}
 use Rattle.lines.proofs.Parts.{word_none, word_short, word_near}
 use Rattle.lines.proofs.place.put_branch_word.Goals as goal
 
--- `lines::place::put_branch_word` meets its contract: in each case the text is that case's.
--- Assumes nothing.
 pub put_bytes-requires : goal.put_bytes-requires
 put_bytes-requires c = room_as (word_short c.in-Short.is) c.requires
 

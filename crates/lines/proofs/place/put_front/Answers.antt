@@ -3,8 +3,6 @@
 use Rattle.text.proofs.Putting.{first, rest, and_then}
 use Rattle.lines.proofs.place.put_front.Goals as goal
 
--- `lines::place::put_front` meets its contract: two puts, one after the other.
--- Assumes nothing.
 pub put_label-next-requires : goal.put_label-next-requires
 put_label-next-requires c = record { label_table = c.requires.label_table; room = first _ c.requires.room }
 

@@ -5,8 +5,6 @@ use Rattle.text.proofs.Putting.{room_as, put_as}
 use Rattle.lines.proofs.Places.{register_st, register_whole}
 use Rattle.lines.proofs.place.put_name.Goals as goal
 
--- `lines::place::put_name` meets its contract, by its one test.
--- Assumes nothing.
 pub put_bytes-requires : goal.put_bytes-requires
 put_bytes-requires c = room_as (register_st c.args.short c.args.reg c.if-short-reg.true) c.requires.room
 

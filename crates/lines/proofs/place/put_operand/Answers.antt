@@ -8,8 +8,6 @@ use Rattle.text.proofs.Putting.{first, rest, and_then, put_none, room_as, put_as
 use Rattle.lines.proofs.Places.{text_absent, text_register, text_number, text_word, text_dword, text_bracket}
 use Rattle.lines.proofs.place.put_operand.Goals as goal
 
--- `lines::place::put_operand` meets its contract: in each case the text is that case's.
--- Assumes nothing.
 pub put_name-requires : goal.put_name-requires
 put_name-requires c = record { register_table = c.requires.register_table; room = room_as (text_register c.args.label c.args.segment c.args.short c.args.mask (register_of (operand_at (fields_by c.args.front c.args.rest.now) 1)) c.args.broadcast c.in-Register.is) c.requires.room }
 

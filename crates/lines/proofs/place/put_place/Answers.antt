@@ -6,8 +6,6 @@ use Rattle.bodies.specs.Code.{fields_by, instruction_by}
 use Rattle.lines.proofs.Places.{place_nothing, place_register, place_branch, place_operand}
 use Rattle.lines.proofs.place.put_place.Goals as goal
 
--- `lines::place::put_place` meets its contract: in each case the text is that case's.
--- Assumes nothing.
 pub put_register-requires : goal.put_register-requires
 put_register-requires c = record { register_table = c.requires.register_table; room = room_as (place_register c.args.mode c.args.arm (instruction_by c.args.front c.args.rest.now) c.in-Register.is) c.requires.room }
 

@@ -10,8 +10,6 @@ use Rattle.lines.specs.Text.{items_text}
 use Rattle.lines.specs.Code.{items_from}
 use Rattle.lines.proofs.place.put_places.Given as goal
 
--- `lines::place::put_places` meets its contract. The loop's invariant: what the places from k on show is all that is left to be put.
--- Assumes nothing.
 abbrev pub invariant-loop-k : goal.invariant-loop-k
 invariant-loop-k l =
     (Left l.initial.buf l.at (items_text (items_at l.mode l.arm (instruction_by l.front l.rest) l.plan)) l.buf l.next (items_from l.k (items_at l.mode l.arm (instruction_by l.front l.rest) l.plan)))

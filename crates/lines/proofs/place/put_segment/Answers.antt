@@ -5,8 +5,6 @@ use Rattle.text.proofs.Putting.{first, rest, and_then, room_as, put_as, put_none
 use Rattle.lines.proofs.Parts.{segment_some, segment_none}
 use Rattle.lines.proofs.place.put_segment.Goals as goal
 
--- `lines::place::put_segment` meets its contract: the name, and the colon after it.
--- Assumes nothing.
 pub put_segment-next-requires : goal.put_segment-next-requires
 put_segment-next-requires c = first _ (room_as (segment_some c.if-segment-gt0.true) c.requires)
 

@@ -5,8 +5,6 @@ use Rattle.text.proofs.Putting.{room_as, put_as}
 use Rattle.lines.proofs.Places.{separator_first, separator_later}
 use Rattle.lines.proofs.place.put_separator.Goals as goal
 
--- `lines::place::put_separator` meets its contract, by its one test.
--- Assumes nothing.
 pub put_byte-requires : goal.put_byte-requires
 put_byte-requires c = room_as (separator_first (c.args.k) (c.if-k-eq0.true)) (c.requires)
 

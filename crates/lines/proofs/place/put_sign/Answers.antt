@@ -5,8 +5,6 @@ use Rattle.text.proofs.Putting.{room_as, put_as}
 use Rattle.lines.proofs.Parts.{sign_minus, sign-plus}
 use Rattle.lines.proofs.place.put_sign.Goals as goal
 
--- `lines::place::put_sign` meets its contract, by its one test.
--- Assumes nothing.
 pub put_bytes-requires : goal.put_bytes-requires
 put_bytes-requires c = room_as (sign_minus c.if-minus.true) c.requires
 

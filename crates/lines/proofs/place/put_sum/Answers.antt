@@ -6,8 +6,6 @@ use Rattle.numerals.specs.Numerals.{numeral}
 use Rattle.lines.specs.Items.{sign_text, branch_text}
 use Rattle.lines.proofs.place.put_sum.Goals as goal
 
--- `lines::place::put_sum` meets its contract: three puts, one after the other.
--- Assumes nothing.
 pub put_branch_word-next-requires : goal.put_branch_word-next-requires
 unfolding branch_text
 put_branch_word-next-requires c = first (sign_text c.args.minus ++ numeral c.args.size) c.requires

@@ -5,8 +5,6 @@ use Rattle.numerals.specs.Numerals.{absolute}
 use Rattle.lines.specs.Items.{target_text}
 use Rattle.lines.proofs.place.put_target.Goals as goal
 
--- `lines::place::put_target` meets its contract: two puts, one after the other.
--- Assumes nothing.
 pub put_branch_word-next-requires : goal.put_branch_word-next-requires
 unfolding target_text
 put_branch_word-next-requires c = first (absolute 8 c.args.target) c.requires

@@ -7,8 +7,6 @@ use Rattle.text.specs.Words.{bytes}
 use Rattle.lines.specs.Items.{absolute_text}
 use Rattle.lines.proofs.place.put_word.Goals as goal
 
--- `lines::place::put_word` meets its contract: the absolute between its brackets.
--- Assumes nothing.
 pub put_byte-next-requires : goal.put_byte-next-requires
 unfolding absolute_text
 put_byte-next-requires c = first (absolute 4 c.args.address ++ bytes "]") (c.requires)

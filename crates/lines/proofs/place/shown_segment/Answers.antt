@@ -3,8 +3,6 @@
 use borrow.Author.Tests.{eq-eqb, ne_eqb}
 use Rattle.lines.proofs.place.shown_segment.Goals as goal
 
--- `lines::place::shown_segment` meets its contract, case by case.
--- Assumes nothing.
 pub returns-then-own-eq4 : goal.returns-then-own-eq4
 returns-then-own-eq4 c = rw (c.in-UnlessDs.is, eq-eqb c.args.own 4 c.if-own-eq4.true)
 

@@ -6,8 +6,6 @@ use Rattle.bodies.specs.Code.{fields_by, instruction_by}
 use Rattle.lines.proofs.Places.{shows_nothing, shows_register, shows_branch, shows_stored}
 use Rattle.lines.proofs.place.shows_something.Goals as goal
 
--- `lines::place::shows_something` meets its contract, case by case.
--- Assumes nothing.
 pub returns-in-Nothing : goal.returns-in-Nothing
 returns-in-Nothing c = λ mode arm. sym (shows_nothing mode arm (instruction_by c.args.front c.args.rest.now) c.in-Nothing.is)
 

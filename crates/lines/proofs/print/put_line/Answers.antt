@@ -6,8 +6,6 @@ use Rattle.text.proofs.Putting.{first, rest, and_then, room_as, put_as}
 use Rattle.lines.proofs.Places.{line_by_lem}
 use Rattle.lines.proofs.print.put_line.Goals as goal
 
--- `lines::print::put_line` meets its contract: the head, the places after it, and the tail.
--- Assumes nothing.
 pub put_head-next-requires : goal.put_head-next-requires
 put_head-next-requires c = record { mnemonic_table = c.requires.mnemonic_table; room = first _ (room_as (line_by_lem c.args.mode c.args.arm c.args.plan c.args.front.start (fields_by c.args.front c.args.rest.now) c.opcode-opcode.ensures refl) c.requires.room) }
 

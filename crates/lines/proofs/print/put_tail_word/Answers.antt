@@ -5,8 +5,6 @@ use Rattle.text.proofs.Putting.{put_none, room_as, put_as}
 use Rattle.lines.proofs.Parts.{tail_none, tail_sae, tail_nearest, tail_down, tail_up, tail_zero}
 use Rattle.lines.proofs.print.put_tail_word.Goals as goal
 
--- `lines::print::put_tail_word` meets its contract: in each case the text is that case's.
--- Assumes nothing.
 pub put_bytes-requires : goal.put_bytes-requires
 put_bytes-requires c = room_as (tail_sae c.in-Sae.is) c.requires
 

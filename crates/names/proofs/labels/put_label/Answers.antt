@@ -4,8 +4,6 @@ use Rattle.text.proofs.Tables.{word-asked, word_put, no_word_put}
 use Rattle.names.specs.Labels.{labels, label_word}
 use Rattle.names.proofs.labels.put_label.Goals as goal
 
--- `names::labels::put_label` meets its contract: the word that stands at its place, or none past the end.
--- Assumes nothing.
 pub returns-then-k-ge11 : goal.returns-then-k-ge11
 unfolding labels label_word
 returns-then-k-ge11 c = no_word_put labels c.if-k-ge11.true

@@ -1,7 +1,7 @@
 -- `names::opcodes::arm_of` meets its contract: at each return, what was called ensures and what was tested give the definition's case.
 -- Assumes nothing.
-use mathlib.Core.Path.{sym}
-use Rattle.names.proofs.ArmNumbers.{arm_found, arm_past}
+use mathlib.Core.Path.{sym, ◌∙◌}
+use Rattle.names.proofs.ArmNumbers.{at_else, arm_here, arm_found, arm_past}
 use Rattle.names.proofs.opcodes.arm_of.Goals as goal
 
 pub returns-in-1 : goal.returns-in-1
@@ -129,3 +129,6 @@ returns-in-41 c = arm_found _ c.requires _ 41 c.in-41.is
 
 pub returns-else-at-lt-OPCODES : goal.returns-else-at-lt-OPCODES
 returns-else-at-lt-OPCODES c = sym (arm_past _ c.if-at-lt-OPCODES.false)
+
+pub returns-in_default : goal.returns-in_default
+returns-in_default c = sym (at_else _ c.in_default.in_default-own.rest) ∙ arm_here _ c.requires _

@@ -4,8 +4,6 @@ use Rattle.text.proofs.Tables.{word-asked, word_put, no_word_put}
 use Rattle.names.specs.Opcodes.{mnemonics, mnemonic, opcodes}
 use Rattle.names.proofs.opcodes.put_mnemonic.Goals as goal
 
--- `names::opcodes::put_mnemonic` meets its contract: the word that stands at its place, or none past the end.
--- Assumes nothing.
 pub returns-then-k-ge-OPCODES : goal.returns-then-k-ge-OPCODES
 unfolding mnemonics mnemonic opcodes
 returns-then-k-ge-OPCODES c = no_word_put mnemonics c.if-k-ge-OPCODES.true

@@ -3,8 +3,6 @@
 use Rattle.text.proofs.Putting.{first, rest, and_then}
 use Rattle.names.proofs.registers.put_numbered.Goals as goal
 
--- `names::registers::put_numbered` meets its contract: a stem and a digit are put one after the other.
--- Assumes nothing.
 pub put_bytes-next-requires : goal.put_bytes-next-requires
 put_bytes-next-requires c = first _ c.requires.room
 

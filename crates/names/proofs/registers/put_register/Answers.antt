@@ -1,17 +1,17 @@
 -- `names::registers::put_register` meets its contract: a word of the table, or stem, number and what closes, or none past the end.
 -- Assumes nothing.
 use mathlib.Core.Path.{sym}
+use mathlib.Core.List.{[], ◌∷◌, ◌++◌}
+use Prim.Native.Nat.{◌%◌}
 use native.Mathlib.Omega.{arith}
 use Rattle.text.specs.Words.{bytes}
 use Rattle.text.proofs.Putting.{first, rest, and_then, room_as, put_as}
-use Rattle.text.proofs.Tables.{word-asked, word_put}
-use Rattle.names.specs.Registers.{registers}
-use Rattle.names.specs.Code.{built}
-use Rattle.names.proofs.Stems.{number-below, byte-built, byte-tabled, byte_in_table}
+use Rattle.text.proofs.Tables.{word-asked, word_put, no_word_put}
+use Rattle.names.specs.Registers.{registers, register_name}
+use Rattle.names.specs.Code.{digit, built}
+use Rattle.names.proofs.Stems.{number-below, byte-built, byte-lettered, byte_past, byte-tabled, byte_in_table}
 use Rattle.names.proofs.registers.put_register.Goals as goal
 
--- `names::registers::put_register` meets its contract: a word of the table, or stem, number and what closes, or none past the end.
--- Assumes nothing.
 -- the banks 0 to 3
 pub put_short-requires : goal.put_short-requires
 put_short-requires c = let low = c.if-bank-lt4.true in let both = word-asked c.requires.register_table c.args.reg (byte_in_table c.args.reg low) (room_as (byte-tabled c.args.reg low) c.requires.room) in record { stands = both.0; room = both.1 }
@@ -23,7 +23,8 @@ returns-then-bank-lt4 c = let low = c.if-bank-lt4.true in
 -- st
 pub put_numbered-next-requires : goal.put_numbered-next-requires
 unfolding built
-put_numbered-next-requires c = let name = byte-built c.args.reg c.in-4.is (omega arith) (omega arith) in let both = (number-below c.args.reg, first (bytes ")") (room_as name c.requires.room)) in record { number_bound = both.0; room = both.1 }
+put_numbered-next-requires c = let name = byte-built c.args.reg c.in-4.is (omega arith) (omega arith) in
+    record { number_bound = number-below c.args.reg; room = first (bytes ")") (room_as name c.requires.room) }
 
 pub put_bytes-requires : goal.put_bytes-requires
 unfolding built
@@ -54,3 +55,24 @@ pub returns-in-9 : goal.returns-in-9
 unfolding built
 returns-in-9 c = let name = byte-built c.args.reg c.in-9.is (omega arith) (omega arith) in
     put_as (sym name) c.put_numbered-in-9.ensures
+
+-- xmm, ymm and zmm
+pub put_byte-next-requires : goal.put_byte-next-requires
+put_byte-next-requires c =
+    let name = byte-lettered c.args.reg (omega arith) (omega arith) c.letter.ensures in
+    first (bytes "mm" ++ (digit (c.args.reg % 8) ∷ [])) (room_as name c.requires.room)
+
+pub put_numbered-requires-in-6 : goal.put_numbered-requires-in-6
+put_numbered-requires-in-6 c =
+    let name = byte-lettered c.args.reg (omega arith) (omega arith) c.letter.ensures in
+    record { number_bound = number-below c.args.reg; room = rest (room_as name c.requires.room) c.put_byte-next.ensures }
+
+pub returns-in-6 : goal.returns-in-6
+returns-in-6 c =
+    let name = byte-lettered c.args.reg (omega arith) (omega arith) c.letter.ensures in
+    put_as (sym name) (and_then (room_as name c.requires.room) c.put_byte-next.ensures c.put_numbered-in-6.ensures)
+
+-- no register
+pub returns-in_default-2 : goal.returns-in_default-2
+unfolding register_name
+returns-in_default-2 c = no_word_put registers (byte_past c.args.reg (omega arith))

@@ -4,8 +4,6 @@ use mathlib.Core.Path.{refl}
 use Rattle.names.specs.Registers.{segments}
 use Rattle.names.proofs.segments.letters.Goals as goal
 
--- `names::segments::letters` meets its contract: the table is what the words make, by computation.
--- Assumes nothing.
 pub returns : goal.returns
 unfolding segments
 returns c = refl

@@ -4,8 +4,6 @@ use Rattle.text.proofs.Tables.{word-asked, word_put, no_word_put}
 use Rattle.names.specs.Registers.{segments, segment_name}
 use Rattle.names.proofs.segments.put_segment.Goals as goal
 
--- `names::segments::put_segment` meets its contract: the word that stands at its place, or none past the end.
--- Assumes nothing.
 pub returns-then-k-ge7 : goal.returns-then-k-ge7
 unfolding segments segment_name
 returns-then-k-ge7 c = no_word_put segments c.if-k-ge7.true

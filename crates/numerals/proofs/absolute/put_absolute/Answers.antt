@@ -5,8 +5,6 @@ use Rattle.text.specs.Words.{bytes}
 use Rattle.numerals.specs.Numerals.{absolute}
 use Rattle.numerals.proofs.absolute.put_absolute.Goals as goal
 
--- `numerals::absolute::put_absolute` meets its contract: the figure, and the h behind it.
--- Assumes nothing.
 pub put_figure-next-requires : goal.put_figure-next-requires
 unfolding absolute
 put_figure-next-requires c = record { digit_value = c.requires.digit_value; room = first (bytes "h") c.requires.room }

@@ -8,8 +8,6 @@ use Rattle.numerals.specs.Digits.{places, places_from}
 use Rattle.numerals.proofs.Places.{top_at}
 use Rattle.numerals.proofs.digits.top_of.Goals as goal
 
--- `numerals::digits::top_of` meets its contract: the tests on the way say in how many places the number can be written.
--- Assumes nothing.
 pub returns-then-v-lt16 : goal.returns-then-v-lt16
 unfolding places places_from
 returns-then-v-lt16 c = let v = c.args.v in top_at {n = 1} (simp (lt-ltb v 16 (omega arith))) (lit≤ tt) (omega arith)

@@ -9,8 +9,6 @@ use Rattle.numerals.specs.Numerals.{numeral}
 use Rattle.numerals.proofs.Texts.{displacement_by}
 use Rattle.numerals.proofs.displacement.masm_displacement.Goals as goal
 
--- `numerals::displacement::masm_displacement` meets its contract: the sign, and the numeral of the size behind it.
--- Assumes nothing.
 pub put_sign-next-requires : goal.put_sign-next-requires
 put_sign-next-requires c = let d = c.args.disp in
     let e = to_z-of_z w32 d c.ranges.disp in

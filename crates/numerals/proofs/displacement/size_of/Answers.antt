@@ -5,8 +5,6 @@ use mir.ValLaws.{to_z-of_z}
 use Rattle.numerals.proofs.Signed.{wider, widened}
 use Rattle.numerals.proofs.displacement.size_of.Goals as goal
 
--- `numerals::displacement::size_of` meets its contract: the number is itself in the wider type.
--- Assumes nothing.
 pub overflow_cast-disp : goal.overflow_cast-disp
 overflow_cast-disp c = rw (to_z-of_z w32 c.args.disp c.ranges.disp) (wider c.args.disp c.ranges.disp)
 

@@ -7,8 +7,6 @@ use mir.ValLaws.{to_z-of_z}
 use Rattle.numerals.proofs.Signed.{widened, opposite_fits, opposite, straight}
 use Rattle.numerals.proofs.displacement.size_of_wide.Goals as goal
 
--- `numerals::displacement::size_of_wide` meets its contract: in the wider type the least number has a size too.
--- Assumes nothing.
 pub overflow_sub-result : goal.overflow_sub-result
 overflow_sub-result c = opposite_fits c.args.wide c.requires
 

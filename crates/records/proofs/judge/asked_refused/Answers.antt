@@ -3,8 +3,6 @@
 use Rattle.records.specs.Records.{asked_refused}
 use Rattle.records.proofs.judge.asked_refused.Goals as goal
 
--- `records::judge::asked_refused` meets its contract.
--- Assumes nothing.
 pub returns : goal.returns
 unfolding asked_refused
 returns c = rw c.known_version.ensures

@@ -15,11 +15,13 @@ use Rattle.arms.proofs.Results.{results_equal as said}
 use Rattle.records.proofs.Judging.{at_body, at_shape, at_size, at_broadcast, at_accepted, few_counted}
 use Rattle.records.proofs.judge.judge_fields.Goals as goal
 
+-- where the number is 0, neither answer 2 nor 3 applies
 kept_by : (body : List ℕ) {n : ℕ} → n ≡ body_answer body → n ≤ 0 → (length_refused body ≡ false) × (field_refused body ≡ false)
 kept_by body {n} e h = let z : n ≡ 0 = omega (arith, h) in nothing_refused body (sym e ∙ z)
 
 pub returns-then-number-gt0 : goal.returns-then-number-gt0
-returns-then-number-gt0 c = let a = c.args in
+returns-then-number-gt0 c asked body m is =
+    let a = c.args in
     sym (at_body asked body is m c.refused-number.ensures c.if-number-gt0.true)
 
 pub shape_refused-requires : goal.shape_refused-requires
@@ -30,7 +32,8 @@ shape_refused-requires c = let a = c.args in
 
 pub returns-then-shape_refused : goal.returns-then-shape_refused
 unfolding instruction_of
-returns-then-shape_refused c = let a = c.args in
+returns-then-shape_refused c asked body m is =
+    let a = c.args in
     let f = fields_by a.front a.rest.now in
     let kept = kept_by f c.refused-number.ensures c.if-number-gt0.false in
     sym (at_shape asked body is m kept.0 kept.1 (c.arm_of-arm.ensures ∙ ap arm_of c.opcode.ensures) (said c.shape_refused.ensures c.if-shape_refused.true))
@@ -43,7 +46,8 @@ plan_lacks-requires c = let a = c.args in let f = fields_by a.front a.rest.now i
 
 pub returns-then-plan_lacks : goal.returns-then-plan_lacks
 unfolding instruction_of
-returns-then-plan_lacks c = let a = c.args in
+returns-then-plan_lacks c asked body m is =
+    let a = c.args in
     let f = fields_by a.front a.rest.now in
     let kept = kept_by f c.refused-number.ensures c.if-number-gt0.false in
     sym
@@ -55,7 +59,8 @@ broadcast_refused-requires c = let a = c.args in let f = fields_by a.front a.res
 
 pub returns-then-broadcast_refused : goal.returns-then-broadcast_refused
 unfolding instruction_of
-returns-then-broadcast_refused c = let a = c.args in
+returns-then-broadcast_refused c asked body m is =
+    let a = c.args in
     let f = fields_by a.front a.rest.now in
     let kept = kept_by f c.refused-number.ensures c.if-number-gt0.false in
     sym
@@ -65,7 +70,8 @@ returns-then-broadcast_refused c = let a = c.args in
 
 pub returns : goal.returns
 unfolding instruction_of
-returns c = let a = c.args in
+returns c asked body m is =
+    let a = c.args in
     let f = fields_by a.front a.rest.now in
     let kept = kept_by f c.refused-number.ensures c.if-number-gt0.false in
     sym

@@ -3,8 +3,6 @@
 use borrow.Author.Tests.{eq-eqb, ne_eqb}
 use Rattle.records.proofs.judge.mode_of.Goals as goal
 
--- `records::judge::mode_of` meets its contract, by its two tests.
--- Assumes nothing.
 pub returns-then-asked-eq2 : goal.returns-then-asked-eq2
 returns-then-asked-eq2 c = rw (eq-eqb _ _ c.if-asked-eq2.true)
 

@@ -13,9 +13,6 @@ use Rattle.records.proofs.Judging.{version_known, at_mode, at_length, judged_by}
 use Rattle.records.proofs.Texts.{refused_room, refused_puts, accepted_shows}
 use Rattle.records.proofs.put.put_record.Goals as goal
 
--- `records::put::put_record` meets its contract: what is asked, a body without a rest, and then its fields; an accepted record has its
--- line and what ends it.
--- Assumes nothing.
 pub put_refused-requires : goal.put_refused-requires
 put_refused-requires c = let a = c.args in let b = a.body.now in let j = at_mode a.asked b refl (said c.asked_refused.ensures c.if-asked_refused.true) in let both = refused_room a.asked b j a.alone c.requires.room in record { number_bound = both.0; room = both.1 }
 
