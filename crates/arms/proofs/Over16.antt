@@ -2,7 +2,7 @@
 -- from the plan. And a record without flag bit 6 and tail has the plan of its places.
 -- Assumes nothing.
 use mathlib.Core.Path.{◌≡◌, refl, sym, ap, ◌∙◌}
-use mathlib.Core.Bool.{Bool, true, false, cond, not, ◌&&◌, ◌||◌, or-false, and-false, and_comm}
+use mathlib.Core.Bool.{Bool, true, false, cond, ◌&&◌, ◌||◌, and-false, and_comm}
 use mathlib.Core.List.{List, [], ◌∷◌}
 use Prim.Native.Nat.{ℕ}
 use lib.Dec.{eqb, ltb}
@@ -10,7 +10,6 @@ use Rattle.operands.specs.Kinds.{is_absent, is_register, is_register_r, is_memor
 use Rattle.operands.specs.declared.Instruction.{Instruction}
 use Rattle.operands.specs.declared.Operand.{Operand}
 use Rattle.operands.specs.declared.Label.{Label}
-use Rattle.operands.specs.declared.Broadcast.{Broadcast}
 use Rattle.operands.specs.declared.Broadcast.TheVariants as broadcast
 use Rattle.operands.specs.declared.Tail.TheVariants as tail
 use Rattle.places.specs.declared.Segment.{Segment}
@@ -25,7 +24,7 @@ use Rattle.arms.specs.Labels.{size_label, general_label}
 use Rattle.arms.specs.Code.{general_by, mmword_for}
 use Rattle.arms.specs.Plans.{plain, labelled, st, named, none, one, two, spread, general, general_plan, fadd, places_of, decorated, plan_of}
 use Rattle.arms.specs.Size.{general_path}
-use Rattle.arms.specs.Decorations.{is_broadcast, broadcast_count, broadcast_after, prints_over16, tail_of, broadcast_refused}
+use Rattle.arms.specs.Decorations.{is_broadcast, broadcast_count, prints_over16, tail_of, broadcast_refused}
 use Rattle.arms.specs.Missing.{is_over16, plan_over16}
 use Rattle.bodies.specs.Body.{size_of, is_extended}
 use Rattle.bodies.specs.Refusals.{field_refused}

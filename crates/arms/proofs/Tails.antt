@@ -16,7 +16,7 @@ use Rattle.names.specs.declared.Arm.{Arm}
 use Rattle.names.specs.declared.Arm.TheVariants as arms
 use Rattle.arms.specs.Tests.{is_branch, is_xbegin, lsl_source}
 use Rattle.arms.specs.Labels.{size_label}
-use Rattle.arms.specs.Code.{general_by, mmword_for}
+use Rattle.arms.specs.Code.{general_by}
 use Rattle.arms.specs.Plans.{plain, labelled, st, named, none, one, two, spread, general, general_plan, places_of, decorated, plan_of}
 use Rattle.arms.specs.Size.{general_path}
 use Rattle.arms.proofs.GeneralPath.{general_plan_lem}

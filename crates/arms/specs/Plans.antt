@@ -1,7 +1,7 @@
 -- What each arm of document 000's `contextualize` shows of a record, arm by arm in its order: the plan of its line. Which records
 -- are refused is said elsewhere: for those the plan here is shown to no one.
 -- Assumes nothing.
-use Rattle.std.specs.Prelude.{Bool, true, false, cond, ◌&&◌, [], ◌∷◌, ℕ, eqb}
+use Rattle.std.specs.Prelude.{Bool, true, false, cond, ◌&&◌, ℕ, eqb}
 use Rattle.operands.specs.declared.Operand.{Operand}
 use Rattle.operands.specs.declared.Label.{Label}
 use Rattle.operands.specs.declared.Label.TheVariants.{None, Dword, Qword, Fword}
@@ -63,7 +63,6 @@ use Rattle.names.specs.declared.Arm.TheVariants.{
   Fbld,
   Fbstp,
 }
-use Rattle.names.specs.Among.{is_arm, is_one_of}
 use Rattle.arms.specs.Tests.{is_branch, is_xbegin, lsl_source, has_vector}
 use Rattle.arms.specs.Labels.{size_label, general_label, lss_label, tbyte_label}
 use Rattle.arms.specs.Size.{general_path}

@@ -1,13 +1,10 @@
 -- What the arms of document 000 test.
 -- Assumes nothing.
-use Rattle.std.specs.Prelude.{Bool, not, ◌&&◌, ◌||◌, ℕ, eqb}
+use Rattle.std.specs.Prelude.{Bool, ◌||◌, ℕ, eqb}
 use Rattle.operands.specs.declared.Operand.{Operand}
 use Rattle.operands.specs.declared.Instruction.{Instruction}
 use Rattle.operands.specs.Kinds.{i8, i32}
 use Rattle.operands.specs.Parts.{register_of, immediate_kind, is_vector}
-use Rattle.names.specs.declared.Arm.{Arm}
-use Rattle.names.specs.declared.Arm.TheVariants.{Qword, Mmword}
-use Rattle.names.specs.Among.{is_arm}
 use Rattle.operands.specs.RegisterBytes.{bank, number, register_in}
 
 -- "Relative branches with kind 3 or 5 as operand 0"

@@ -1,10 +1,6 @@
 -- `arms::decorations::broadcast_count` meets its contract: the two tables by the bits, else the width of the operand before by the size.
 -- Assumes nothing.
 use Rattle.bodies.specs.Decoding.{instruction_of}
-use mathlib.Core.Path.{◌≡◌, refl}
-use mathlib.Core.List.{List}
-use Prim.Native.Nat.{ℕ}
-use Rattle.bodies.specs.Body.{size_of}
 use Rattle.arms.specs.Decorations.{broadcast_count}
 use borrow.Author.Rules.{rules}
 use Rattle.arms.proofs.decorations.broadcast_count.Goals as goal

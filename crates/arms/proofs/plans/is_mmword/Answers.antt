@@ -1,6 +1,5 @@
 -- `arms::plans::is_mmword` meets its contract: at each return, what was called ensures and what was tested give the definition's case.
 -- Assumes nothing.
-use mathlib.Core.Bool.{false}
 use borrow.Author.Tests.{eq-eqb, ne_eqb}
 use Rattle.arms.proofs.plans.is_mmword.Goals as goal
 

@@ -1,7 +1,6 @@
 -- `arms::plans::own` meets its contract: at each return the arm is known, and at the last it is one that shows its name alone.
 -- Assumes nothing.
 use Rattle.bodies.specs.Code.{fields_by}
-use Rattle.places.specs.declared.Place.TheVariants as place
 use Rattle.bodies.specs.Decoding.{instruction_of}
 use Rattle.arms.specs.Plans.{places_of}
 use Rattle.arms.proofs.GeneralPath.{own_lsl}

@@ -1,10 +1,5 @@
 -- `arms::shapes::scatter_refused` meets its contract: what is asked of the three operands.
 -- Assumes nothing.
-use Rattle.arms.proofs.shapes.scatter_refused.Reads as reads
-use Rattle.arms.proofs.shapes.scatter_refused.Lts as lts
-use Rattle.bodies.proofs.kinds.is_absent_at.Reads as is_absent_at_reads
-use Rattle.bodies.proofs.kinds.is_mask_register_at.Reads as is_mask_register_at_reads
-use Rattle.bodies.proofs.kinds.is_plain_memory_at.Reads as is_plain_memory_at_reads
 use Rattle.arms.proofs.shapes.scatter_refused.Goals as goal
 
 pub returns : goal.returns

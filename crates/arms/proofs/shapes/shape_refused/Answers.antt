@@ -1,9 +1,6 @@
 -- `arms::shapes::shape_refused` meets its contract: at each return the arm is known, and the law of that arm says what the whole
 -- sentence of document 01 comes to there. At the last it is one of the arms that refuse nothing.
 -- Assumes nothing.
-use mathlib.Core.List.{List, [], ◌∷◌}
-use Rattle.names.specs.declared.Arm.{Arm}
-use Rattle.names.specs.declared.Arm.TheVariants.{Hreset, Lsl, Prefetch, Sgdt, Lss, Invlpgb, Scas, Lods, Incssp, Wrss, Pblendvb, Lea, Fcom, Fadd, Fbld, Fbstp, ScatterDword, ScatterQword}
 use Rattle.bodies.specs.Decoding.{instruction_of}
 use Rattle.arms.proofs.ByArm.{at_lsl, at_lss, at_invlpgb, at_lods, at_incssp, at_wrss, at_fcom, at_fadd, at_fbld}
 use borrow.Author.Rules.{rules}

@@ -2,10 +2,7 @@
 -- the general path.
 -- Assumes nothing.
 use Rattle.bodies.specs.Code.{fields_by}
-use mathlib.Core.List.{List, [], ◌∷◌}
 use mathlib.Core.Path.{sym}
-use Rattle.names.specs.declared.Arm.{Arm}
-use Rattle.names.specs.declared.Arm.TheVariants.{General, Qword, Mmword, Jmpf, Callf, Lds, Movs, Cmps, Singles, Doubles, Branch, Call, Xbegin, Lsl, Nop, Incssp, Wrss, Aam}
 use Rattle.bodies.specs.Decoding.{instruction_of}
 use Rattle.arms.proofs.GeneralPath.{path_of_xbegin, path_of_lsl, path_of_nop, path_of_aam}
 use borrow.Author.Rules.{rules}
