@@ -165,7 +165,7 @@ sound_with_broadcast : (c : Bool) (second : Operand) (b : Broadcast) (p : Place)
 sound_with_broadcast c second b place.Nothing = refl
 sound_with_broadcast c second b (place.Register reg) = refl
 sound_with_broadcast c second b place.Branch = refl
-sound_with_broadcast c second b (place.Operand k label segment short mask none) = refl
+sound_with_broadcast c second b (place.Operand k label segment short mask _) = refl
 
 module _ (arm : Arm) (i : Instruction) where
   decorated_sound : (plan : Plan) → plan_sound (branches arm i) i plan ≡ true → plan_sound (branches arm i) i (decorated arm i plan) ≡ true

@@ -32,7 +32,7 @@ use Rattle.streams.proofs.Stepping.{bounded}
 use Rattle.streams.proofs.Streaming.{step_sound, bytes_drop}
 
 -- steps, and what comes after them
-pub steps_stream : {asked : Asked} {stage now : Stage} {held left says written : List ℕ} {reads : List (List ℕ)} {records refused : ℕ} → Steps asked stage held says now left records refused → Streams asked now left reads written → Streams asked stage held reads (says ++ written)
+pub steps_stream : {asked : Asked} {stage : Stage} {held says : List ℕ} {now : Stage} {left written : List ℕ} {reads : List (List ℕ)} {records refused : ℕ} → Steps asked stage held says now left records refused → Streams asked now left reads written → Streams asked stage held reads (says ++ written)
 steps_stream no_step s = s
 steps_stream {asked} {written = written} (step_more {says = before} {now = now} {left = left} m) s =
     rw (append_assoc before (stepped asked now left).says written) (steps_stream m (step s))
@@ -60,10 +60,10 @@ settle {asked} {now = now} {left} zero h alive s =
       alive = alive;
       unused = omega (arith, h, (bounded asked now left alive).uses);
     }
-settle {asked} {stage} {held} {now = now} {left} (suc k) h alive s =
+settle {asked} {stage} {held} {says} {now} {left} (suc k) h alive s =
     go (none_or_some (stepped asked now left).used)
     (λ (some : 0 < (stepped asked now left).used).
-    settle k (omega (arith, h, some, length-drop (stepped asked now left).used left)) (bounded asked now left alive).alive (step_more s))
+    settle {says = says ++ (stepped asked now left).says} k (omega (arith, h, some, length-drop (stepped asked now left).used left)) (bounded asked now left alive).alive (step_more s))
   where
     go : ((stepped asked now left).used ≡ 0) ⊎ (0 < (stepped asked now left).used) → (0 < (stepped asked now left).used → Settled asked stage held) → Settled asked stage held
     go (inl e) on =
