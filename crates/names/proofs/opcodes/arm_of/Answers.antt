@@ -1,6 +1,8 @@
 -- `names::opcodes::arm_of` meets its contract: at each return, what was called ensures and what was tested give the definition's case.
 -- Assumes nothing.
 use mathlib.Core.Path.{sym, ◌∙◌}
+use lib.ListN.{get_or}
+use borrow.Author.Rules.{rules}
 use Rattle.names.proofs.ArmNumbers.{at_else, arm_here, arm_found, arm_past}
 use Rattle.names.proofs.opcodes.arm_of.Goals as goal
 
@@ -131,4 +133,4 @@ pub returns-else-at-lt-OPCODES : goal.returns-else-at-lt-OPCODES
 returns-else-at-lt-OPCODES c = sym (arm_past _ c.if-at-lt-OPCODES.false)
 
 pub returns-in_default : goal.returns-in_default
-returns-in_default c = sym (at_else _ c.in_default.in_default-own.rest) ∙ arm_here _ c.requires _
+returns-in_default c = sym (at_else (get_or c.args.table.now c.args.opcode 0) (search rules)) ∙ arm_here _ c.requires _

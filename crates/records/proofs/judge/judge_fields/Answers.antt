@@ -65,8 +65,8 @@ returns-then-broadcast_refused c asked body m is =
     let kept = kept_by f c.refused-number.ensures c.if-number-gt0.false in
     sym
     (at_broadcast asked body is m kept.0 kept.1 (c.arm_of-arm.ensures ∙ ap arm_of c.opcode.ensures)
-    (said c.shape_refused.ensures c.if-shape_refused.false) c.plan_of-plan.ensures (said c.plan_lacks.ensures c.if-plan_lacks.false)
-    (said c.broadcast_refused.ensures c.if-broadcast_refused.true))
+    (said c.shape_refused.ensures c.if-shape_refused.false) c.plan_of-plan.ensures
+    (said c.plan_lacks.ensures c.if-plan_lacks.false) (said c.broadcast_refused.ensures c.if-broadcast_refused.true))
 
 pub returns : goal.returns
 unfolding instruction_of
