@@ -10,7 +10,10 @@ use Rattle.bodies.proofs.Lengths.{bits_extended}
 use Rattle.bodies.proofs.fields.bits.Goals as goal
 
 pub returns-then-is_extended : goal.returns-then-is_extended
-returns-then-is_extended c = let a = c.args in let more : length (fields_by a.front a.rest.now) - 2 ≡ in_fields (length a.rest.now - 2) = omega (arith, c.requires.fixed) in sym (rw more at (bits_extended (fields_by c.args.front c.args.rest.now) c.requires (sym c.is_extended.ensures ∙ c.if-is_extended.true)))
+returns-then-is_extended c =
+    let a = c.args in
+    let more : length (fields_by a.front a.rest.now) - 2 ≡ in_fields (length a.rest.now - 2) = omega (arith, c.requires.fixed) in
+    sym (rw more at (bits_extended (fields_by c.args.front c.args.rest.now) c.requires (sym c.is_extended.ensures ∙ c.if-is_extended.true)))
 
 pub returns-else-is_extended : goal.returns-else-is_extended
 returns-else-is_extended c = rw (sym c.is_extended.ensures ∙ c.if-is_extended.false)

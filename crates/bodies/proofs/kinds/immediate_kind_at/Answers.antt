@@ -7,13 +7,21 @@ use Rattle.bodies.proofs.ByKind.{operand_none, immediate_kind_by_kind}
 use Rattle.bodies.proofs.kinds.immediate_kind_at.Goals as goal
 
 pub returns-then-kind-le-REGISTER_M : goal.returns-then-kind-le-REGISTER_M
-returns-then-kind-le-REGISTER_M c = let a = c.args in rw (immediate_kind_by_kind (fields_by a.front a.rest.now) a.k (omega (arith, c.count.ensures, c.if-k-count.true)), ← c.place_at-at.ensures.result_value, le-leb _ _ c.if-kind-le-REGISTER_M.true)
+returns-then-kind-le-REGISTER_M c =
+    let a = c.args in
+    rw (immediate_kind_by_kind (fields_by a.front a.rest.now) a.k (omega (arith, c.count.ensures, c.if-k-count.true)), ← c.place_at-at.ensures.result_value, le-leb _ _ c.if-kind-le-REGISTER_M.true)
 
 pub returns-then-kind-le-U32 : goal.returns-then-kind-le-U32
-returns-then-kind-le-U32 c = let a = c.args in rw (immediate_kind_by_kind (fields_by a.front a.rest.now) a.k (omega (arith, c.count.ensures, c.if-k-count.true)), ← c.place_at-at.ensures.result_value, lt-leb _ _ c.if-kind-le-REGISTER_M.false, le-leb _ _ c.if-kind-le-U32.true)
+returns-then-kind-le-U32 c =
+    let a = c.args in
+    rw (immediate_kind_by_kind (fields_by a.front a.rest.now) a.k (omega (arith, c.count.ensures, c.if-k-count.true)), ← c.place_at-at.ensures.result_value, lt-leb _ _ c.if-kind-le-REGISTER_M.false, le-leb _ _ c.if-kind-le-U32.true)
 
 pub returns-else-kind-le-U32 : goal.returns-else-kind-le-U32
-returns-else-kind-le-U32 c = let a = c.args in rw (immediate_kind_by_kind (fields_by a.front a.rest.now) a.k (omega (arith, c.count.ensures, c.if-k-count.true)), ← c.place_at-at.ensures.result_value, lt-leb _ _ c.if-kind-le-REGISTER_M.false, lt-leb _ _ c.if-kind-le-U32.false)
+returns-else-kind-le-U32 c =
+    let a = c.args in
+    rw (immediate_kind_by_kind (fields_by a.front a.rest.now) a.k (omega (arith, c.count.ensures, c.if-k-count.true)), ← c.place_at-at.ensures.result_value, lt-leb _ _ c.if-kind-le-REGISTER_M.false, lt-leb _ _ c.if-kind-le-U32.false)
 
 pub returns-else-k-count : goal.returns-else-k-count
-returns-else-k-count c = let a = c.args in rw (operand_none (fields_by a.front a.rest.now) a.k (omega (arith, c.count.ensures, c.if-k-count.false)))
+returns-else-k-count c =
+    let a = c.args in
+    rw (operand_none (fields_by a.front a.rest.now) a.k (omega (arith, c.count.ensures, c.if-k-count.false)))

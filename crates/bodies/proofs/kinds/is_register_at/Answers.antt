@@ -6,7 +6,11 @@ use Rattle.bodies.proofs.ByKind.{operand_none, register_by_kind}
 use Rattle.bodies.proofs.kinds.is_register_at.Goals as goal
 
 pub returns-then-k-count : goal.returns-then-k-count
-returns-then-k-count c = let a = c.args in rw (register_by_kind (fields_by a.front a.rest.now) a.k (omega (arith, c.count.ensures, c.if-k-count.true)), ← c.place_at-at.ensures.result_value)
+returns-then-k-count c =
+    let a = c.args in
+    rw (register_by_kind (fields_by a.front a.rest.now) a.k (omega (arith, c.count.ensures, c.if-k-count.true)), ← c.place_at-at.ensures.result_value)
 
 pub returns-else-k-count : goal.returns-else-k-count
-returns-else-k-count c = let a = c.args in rw (operand_none (fields_by a.front a.rest.now) a.k (omega (arith, c.count.ensures, c.if-k-count.false)))
+returns-else-k-count c =
+    let a = c.args in
+    rw (operand_none (fields_by a.front a.rest.now) a.k (omega (arith, c.count.ensures, c.if-k-count.false)))

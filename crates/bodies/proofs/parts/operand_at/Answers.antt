@@ -43,4 +43,6 @@ returns-else-is_extended c = let a = c.args in
 
 pub returns-else-k-count : goal.returns-else-k-count
 unfolding operand_at
-returns-else-k-count c = let a = c.args in rw (le-ltb a.k (count_of (fields_by a.front a.rest.now)) (omega (arith, c.count.ensures, c.if-k-count.false)))
+returns-else-k-count c =
+    let a = c.args in
+    rw (le-ltb a.k (count_of (fields_by a.front a.rest.now)) (omega (arith, c.count.ensures, c.if-k-count.false)))

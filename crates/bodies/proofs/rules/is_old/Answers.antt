@@ -9,7 +9,9 @@ use Rattle.bodies.specs.Body.{count_of}
 use Rattle.bodies.proofs.rules.is_old.Goals as goal
 
 pub returns-then-rest-lt10 : goal.returns-then-rest-lt10
-returns-then-rest-lt10 c = let a = c.args in rw (lt-ltb (length (fields_by a.front a.rest.now)) 14 (omega (arith, c.if-rest-lt10.true)))
+returns-then-rest-lt10 c =
+    let a = c.args in
+    rw (lt-ltb (length (fields_by a.front a.rest.now)) 14 (omega (arith, c.if-rest-lt10.true)))
 
 pub returns-then-rest-byte_at : goal.returns-then-rest-byte_at
 returns-then-rest-byte_at c = let a = c.args in

@@ -1,3 +1,5 @@
+-- `bodies::rules::length_refused` meets its contract: while none has a mask, operand k stands after five bytes for each.
+-- Assumes nothing.
 use Rattle.bodies.proofs.InRest.{eqb_more}
 use lib.ListN.{length}
 use Rattle.bodies.specs.Code.{fields_by, in_fields}
@@ -28,7 +30,9 @@ pub overflow_add-end : goal.overflow_add-end
 overflow_add-end c = record { fits = omega (arith, c.byte_at-count.ensures.upper_bound) }
 
 pub returns-then-rest-end : goal.returns-then-rest-end
-returns-then-rest-end c = let b = fields_by c.args.front c.args.rest.now in sym (past_refused b (omega (arith, c.if-rest-lt10.false)) (omega (arith, c.if-rest-end.true, c.byte_at-count.ensures.value, place_least b (count_of b))))
+returns-then-rest-end c =
+    let b = fields_by c.args.front c.args.rest.now in
+    sym (past_refused b (omega (arith, c.if-rest-lt10.false)) (omega (arith, c.if-rest-end.true, c.byte_at-count.ensures.value, place_least b (count_of b))))
 
 pub loop-k-init : goal.loop-k-init
 loop-k-init c = (masked_first (fields_by c.args.front c.args.rest.now), omega arith)
@@ -58,7 +62,13 @@ pub loop-k-smaller : goal.loop-k-smaller
 loop-k-smaller c = omega (arith, c.loop-k-test.true)
 
 pub loop-k-preserved : goal.loop-k-preserved
-loop-k-preserved c = let b = fields_by c.args.front c.args.rest.now in let k = c.loop-k.k in let none = c.loop-k.invariant.0 in let first : 14 + 5 * k ≡ in_fields (10 + 5 * k) = omega arith in let m : is_masked (kind_at b k) ≡ false = ap (λ (n : ℕ). is_masked (byte b n)) (place_unmasked b k none ∙ first) ∙ (sym c.is_masked.ensures ∙ c.if-is_masked.false) in (masked_step b k ∙ ap₂ (λ (s t : Bool). s || t) none m, omega (arith, c.loop-k-test.true))
+loop-k-preserved c =
+    let b = fields_by c.args.front c.args.rest.now in
+    let k = c.loop-k.k in
+    let none = c.loop-k.invariant.0 in
+    let first : 14 + 5 * k ≡ in_fields (10 + 5 * k) = omega arith in
+    let m : is_masked (kind_at b k) ≡ false = ap (λ (n : ℕ). is_masked (byte b n)) (place_unmasked b k none ∙ first) ∙ (sym c.is_masked.ensures ∙ c.if-is_masked.false) in
+    (masked_step b k ∙ ap₂ (λ (s t : Bool). s || t) none m, omega (arith, c.loop-k-test.true))
 
 pub opcode-requires : goal.opcode-requires
 opcode-requires c = tt
@@ -70,7 +80,24 @@ pub overflow_add-result : goal.overflow_add-result
 overflow_add-result c = record { fits = omega (arith, c.byte_at-count.ensures.upper_bound) }
 
 pub returns-then-is_vector_opcode : goal.returns-then-is_vector_opcode
-returns-then-is_vector_opcode c = let b = fields_by c.args.front c.args.rest.now in let k = c.loop-k.k in let all : k ≡ count_of b = omega (arith, c.loop-k.invariant.1, c.loop-k-test.false, c.byte_at-count.ensures.value) in let none : any_masked b (count_of b) ≡ false = ap (λ (n : ℕ). any_masked b n) (sym all) ∙ c.loop-k.invariant.0 in let end : end_of b ≡ 14 + 5 * count_of b = place_unmasked b (count_of b) none in let v : is_vector_opcode (opcode_of b) ≡ true = sym (c.is_vector_opcode.ensures ∙ ap (λ (n : ℕ). is_vector_opcode n) c.opcode.ensures) ∙ c.if-is_vector_opcode.true in let end2 : end_of b + 2 ≡ in_fields (10 + 5 * count_of b + 2) = omega (arith, end) in rw (extended_refused b (omega (arith, c.if-rest-lt10.false)) (extended_opcode b v), end2, c.byte_at-count.ensures.value, eqb_more (length c.args.rest.now) (10 + 5 * count_of b + 2))
+returns-then-is_vector_opcode c =
+    let b = fields_by c.args.front c.args.rest.now in
+    let k = c.loop-k.k in
+    let all : k ≡ count_of b = omega (arith, c.loop-k.invariant.1, c.loop-k-test.false, c.byte_at-count.ensures.value) in
+    let none : any_masked b (count_of b) ≡ false = ap (λ (n : ℕ). any_masked b n) (sym all) ∙ c.loop-k.invariant.0 in
+    let end : end_of b ≡ 14 + 5 * count_of b = place_unmasked b (count_of b) none in
+    let v : is_vector_opcode (opcode_of b) ≡ true = sym (c.is_vector_opcode.ensures ∙ ap (λ (n : ℕ). is_vector_opcode n) c.opcode.ensures) ∙ c.if-is_vector_opcode.true in
+    let end2 : end_of b + 2 ≡ in_fields (10 + 5 * count_of b + 2) = omega (arith, end) in
+    rw (extended_refused b (omega (arith, c.if-rest-lt10.false)) (extended_opcode b v), end2, c.byte_at-count.ensures.value, eqb_more (length c.args.rest.now) (10 + 5 * count_of b + 2))
 
 pub returns-else-is_vector_opcode : goal.returns-else-is_vector_opcode
-returns-else-is_vector_opcode c = let b = fields_by c.args.front c.args.rest.now in let k = c.loop-k.k in let all : k ≡ count_of b = omega (arith, c.loop-k.invariant.1, c.loop-k-test.false, c.byte_at-count.ensures.value) in let none : any_masked b (count_of b) ≡ false = ap (λ (n : ℕ). any_masked b n) (sym all) ∙ c.loop-k.invariant.0 in let end : end_of b ≡ 14 + 5 * count_of b = place_unmasked b (count_of b) none in let v : is_vector_opcode (opcode_of b) ≡ false = sym (c.is_vector_opcode.ensures ∙ ap (λ (n : ℕ). is_vector_opcode n) c.opcode.ensures) ∙ c.if-is_vector_opcode.false in let e : is_extended b ≡ false = extended_is b ∙ ap₂ (λ (s t : Bool). s || t) v none in let end2 : end_of b ≡ in_fields (10 + 5 * count_of b) = omega (arith, end) in rw (plain_refused b (omega (arith, c.if-rest-lt10.false)) e, end2, c.byte_at-count.ensures.value, eqb_more (length c.args.rest.now) (10 + 5 * count_of b))
+returns-else-is_vector_opcode c =
+    let b = fields_by c.args.front c.args.rest.now in
+    let k = c.loop-k.k in
+    let all : k ≡ count_of b = omega (arith, c.loop-k.invariant.1, c.loop-k-test.false, c.byte_at-count.ensures.value) in
+    let none : any_masked b (count_of b) ≡ false = ap (λ (n : ℕ). any_masked b n) (sym all) ∙ c.loop-k.invariant.0 in
+    let end : end_of b ≡ 14 + 5 * count_of b = place_unmasked b (count_of b) none in
+    let v : is_vector_opcode (opcode_of b) ≡ false = sym (c.is_vector_opcode.ensures ∙ ap (λ (n : ℕ). is_vector_opcode n) c.opcode.ensures) ∙ c.if-is_vector_opcode.false in
+    let e : is_extended b ≡ false = extended_is b ∙ ap₂ (λ (s t : Bool). s || t) v none in
+    let end2 : end_of b ≡ in_fields (10 + 5 * count_of b) = omega (arith, end) in
+    rw (plain_refused b (omega (arith, c.if-rest-lt10.false)) e, end2, c.byte_at-count.ensures.value, eqb_more (length c.args.rest.now) (10 + 5 * count_of b))

@@ -8,7 +8,9 @@ use Rattle.bodies.proofs.Picks.{both_left}
 use Rattle.bodies.proofs.stored.form_of.Goals as goal
 
 pub overflow_sub-result : goal.overflow_sub-result
-overflow_sub-result c = let kind = c.args.kind in omega (arith, leb-true 17 kind (both_left (leb 17 kind) (leb kind 22) (sym c.is_masked.ensures ∙ c.if-is_masked.true)))
+overflow_sub-result c =
+    let kind = c.args.kind in
+    omega (arith, leb-true 17 kind (both_left (leb 17 kind) (leb kind 22) (sym c.is_masked.ensures ∙ c.if-is_masked.true)))
 
 pub returns-then-is_masked : goal.returns-then-is_masked
 returns-then-is_masked c = rw (sym c.is_masked.ensures ∙ c.if-is_masked.true)

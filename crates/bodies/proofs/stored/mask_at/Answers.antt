@@ -14,16 +14,34 @@ use Rattle.bodies.proofs.Lengths.{place_within, mask_within}
 use Rattle.bodies.proofs.stored.mask_at.Goals as goal
 
 pub bounds-rest-at : goal.bounds-rest-at
-bounds-rest-at c = let b = fields_by c.args.front c.args.rest.now in let k = c.args.k in omega (arith, c.requires.at_value, place_within b c.requires.whole k c.requires.k_bound, size_least (kind_at b k))
+bounds-rest-at c =
+    let b = fields_by c.args.front c.args.rest.now in
+    let k = c.args.k in
+    omega (arith, c.requires.at_value, place_within b c.requires.whole k c.requires.k_bound, size_least (kind_at b k))
 
 pub overflow_add-result : goal.overflow_add-result
-overflow_add-result c = let b = fields_by c.args.front c.args.rest.now in let k = c.args.k in record { fits = omega (arith, c.requires.at_value, place_most b k, c.ranges.k.fits) }
+overflow_add-result c =
+    let b = fields_by c.args.front c.args.rest.now in
+    let k = c.args.k in
+    record { fits = omega (arith, c.requires.at_value, place_most b k, c.ranges.k.fits) }
 
 pub bounds-rest-at-then-is_masked : goal.bounds-rest-at-then-is_masked
-bounds-rest-at-then-is_masked c = let b = fields_by c.args.front c.args.rest.now in let k = c.args.k in let m : is_masked (kind_at b k) ≡ true = ap (λ (n : ℕ). is_masked (byte b n)) (sym c.requires.at_value) ∙ (sym c.is_masked.ensures ∙ c.if-is_masked.true) in omega (arith, c.requires.at_value, mask_within b c.requires.whole k c.requires.k_bound m)
+bounds-rest-at-then-is_masked c =
+    let b = fields_by c.args.front c.args.rest.now in
+    let k = c.args.k in
+    let m : is_masked (kind_at b k) ≡ true = ap (λ (n : ℕ). is_masked (byte b n)) (sym c.requires.at_value) ∙ (sym c.is_masked.ensures ∙ c.if-is_masked.true) in
+    omega (arith, c.requires.at_value, mask_within b c.requires.whole k c.requires.k_bound m)
 
 pub returns-then-is_masked : goal.returns-then-is_masked
-returns-then-is_masked c = let b = fields_by c.args.front c.args.rest.now in let k = c.args.k in let m : is_masked (kind_at b k) ≡ true = ap (λ (n : ℕ). is_masked (byte b n)) (sym c.requires.at_value) ∙ (sym c.is_masked.ensures ∙ c.if-is_masked.true) in rw m (ap (λ (n : ℕ). byte b n) (sym (in_more c.args.at 5)) ∙ ap (λ (n : ℕ). byte b (n + 5)) c.requires.at_value)
+returns-then-is_masked c =
+    let b = fields_by c.args.front c.args.rest.now in
+    let k = c.args.k in
+    let m : is_masked (kind_at b k) ≡ true = ap (λ (n : ℕ). is_masked (byte b n)) (sym c.requires.at_value) ∙ (sym c.is_masked.ensures ∙ c.if-is_masked.true) in
+    rw m (ap (λ (n : ℕ). byte b n) (sym (in_more c.args.at 5)) ∙ ap (λ (n : ℕ). byte b (n + 5)) c.requires.at_value)
 
 pub returns-else-is_masked : goal.returns-else-is_masked
-returns-else-is_masked c = let b = fields_by c.args.front c.args.rest.now in let k = c.args.k in let m : is_masked (kind_at b k) ≡ false = ap (λ (n : ℕ). is_masked (byte b n)) (sym c.requires.at_value) ∙ (sym c.is_masked.ensures ∙ c.if-is_masked.false) in rw m
+returns-else-is_masked c =
+    let b = fields_by c.args.front c.args.rest.now in
+    let k = c.args.k in
+    let m : is_masked (kind_at b k) ≡ false = ap (λ (n : ℕ). is_masked (byte b n)) (sym c.requires.at_value) ∙ (sym c.is_masked.ensures ∙ c.if-is_masked.false) in
+    rw m

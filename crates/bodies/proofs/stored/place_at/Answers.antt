@@ -8,7 +8,14 @@ use Rattle.bodies.proofs.Lengths.{place_within, place_by_length}
 use Rattle.bodies.proofs.stored.place_at.Goals as goal
 
 pub returns-then-rest-byte_at : goal.returns-then-rest-byte_at
-returns-then-rest-byte_at c = let b = fields_by c.args.front c.args.rest.now in let k = c.args.k in let e = place_by_length b c.requires.whole k c.requires.k_bound (omega (arith, c.if-rest-byte_at.true, c.byte_at.ensures.value)) in record { result_value = omega (arith, e); result_in_bounds = omega (arith, e, place_within b c.requires.whole k c.requires.k_bound, size_least (kind_at b k)) }
+returns-then-rest-byte_at c =
+    let b = fields_by c.args.front c.args.rest.now in
+    let k = c.args.k in
+    let e = place_by_length b c.requires.whole k c.requires.k_bound (omega (arith, c.if-rest-byte_at.true, c.byte_at.ensures.value)) in
+    record { result_value = omega (arith, e); result_in_bounds = omega (arith, e, place_within b c.requires.whole k c.requires.k_bound, size_least (kind_at b k)) }
 
 pub returns-else-rest-byte_at : goal.returns-else-rest-byte_at
-returns-else-rest-byte_at c = let b = fields_by c.args.front c.args.rest.now in let k = c.args.k in record { result_value = c.walk_to.ensures; result_in_bounds = omega (arith, c.walk_to.ensures, place_within b c.requires.whole k c.requires.k_bound, size_least (kind_at b k)) }
+returns-else-rest-byte_at c =
+    let b = fields_by c.args.front c.args.rest.now in
+    let k = c.args.k in
+    record { result_value = c.walk_to.ensures; result_in_bounds = omega (arith, c.walk_to.ensures, place_within b c.requires.whole k c.requires.k_bound, size_least (kind_at b k)) }

@@ -1,3 +1,5 @@
+-- `bodies::stored::walk_to` meets its contract: after i operands the place is that of operand i.
+-- Assumes nothing.
 use Rattle.bodies.proofs.InRest.{in_more}
 use Rattle.frames.specs.Numbers.{byte}
 use Rattle.bodies.specs.Code.{fields_by, in_fields}
@@ -13,7 +15,10 @@ pub loop-i-init : goal.loop-i-init
 loop-i-init c = (λ f. sym (place_first (fields_by f c.args.rest.now)), omega arith)
 
 pub place_after-at-requires : goal.place_after-at-requires
-place_after-at-requires c = let b = fields_by c.args.front c.args.rest.now in let i = c.loop-i.i in record { at_in_bounds = omega (arith, c.loop-i.invariant.0 c.args.front, place_within b c.requires.whole i (omega (arith, c.loop-i-test.true, c.requires.k_bound)), size_least (kind_at b i)); at_bound = omega (arith, c.loop-i.invariant.0 c.args.front, place_most b i, c.loop-i-test.true, c.ranges.k.fits) }
+place_after-at-requires c =
+    let b = fields_by c.args.front c.args.rest.now in
+    let i = c.loop-i.i in
+    record { at_in_bounds = omega (arith, c.loop-i.invariant.0 c.args.front, place_within b c.requires.whole i (omega (arith, c.loop-i-test.true, c.requires.k_bound)), size_least (kind_at b i)); at_bound = omega (arith, c.loop-i.invariant.0 c.args.front, place_most b i, c.loop-i-test.true, c.ranges.k.fits) }
 
 pub overflow_add-i : goal.overflow_add-i
 overflow_add-i c = record { fits = omega (arith, c.loop-i-test.true, c.ranges.k.fits) }
@@ -31,4 +36,7 @@ loop-i-preserved c = let rest = c.args.rest.now in
     )
 
 pub returns : goal.returns
-returns c = let b = fields_by c.args.front c.args.rest.now in let last : c.loop-i.i ≡ c.args.k = omega (arith, c.loop-i.invariant.1, c.loop-i-test.false) in c.loop-i.invariant.0 c.args.front ∙ ap (λ (n : ℕ). place_of b n) last
+returns c =
+    let b = fields_by c.args.front c.args.rest.now in
+    let last : c.loop-i.i ≡ c.args.k = omega (arith, c.loop-i.invariant.1, c.loop-i-test.false) in
+    c.loop-i.invariant.0 c.args.front ∙ ap (λ (n : ℕ). place_of b n) last
