@@ -243,7 +243,7 @@ lacks_with_broadcast : (i : Instruction) (b : Broadcast) (p : Place) → place_l
 lacks_with_broadcast i b place.Nothing = refl
 lacks_with_broadcast i b (place.Register reg) = refl
 lacks_with_broadcast i b place.Branch = refl
-lacks_with_broadcast i b (place.Operand k label segment short mask none) = refl
+lacks_with_broadcast i b (place.Operand k label segment short mask _) = refl
 
 module _ (arm : Arm) (i : Instruction) where
   lacks_decorated : (plan : Plan) → plan_lacks i (decorated arm i plan) ≡ plan_lacks i plan

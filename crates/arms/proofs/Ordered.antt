@@ -193,7 +193,7 @@ unfolding item_at operand_shown
 shown_with-broadcast mode arm i b place.Nothing = refl
 shown_with-broadcast mode arm i b (place.Register reg) = refl
 shown_with-broadcast mode arm i b place.Branch = refl
-shown_with-broadcast mode arm i b (place.Operand k label segment short mask none) = refl
+shown_with-broadcast mode arm i b (place.Operand k label segment short mask _) = refl
 
 module _ (mode : Mode) (arm : Arm) (i : Instruction) where
   left-decorated : (plan : Plan) → from_the_left (items_at mode arm i (decorated arm i plan)) ≡ from_the_left (items_at mode arm i plan)

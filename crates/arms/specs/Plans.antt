@@ -206,7 +206,7 @@ abbrev pub broadcast_as : Broadcast → Place → Place
 broadcast_as b place.Nothing = place.Nothing
 broadcast_as b (place.Register reg) = place.Register reg
 broadcast_as b place.Branch = place.Branch
-broadcast_as b (place.Operand k label segment short mask none) = place.Operand k label segment short mask b
+broadcast_as b (place.Operand k label segment short mask _) = place.Operand k label segment short mask b
 
 -- "Flag bit 6 puts `{1toN}` on the general path's memory operands after the first", N by the operand before; the tail ends the line
 unfoldable pub decorated : Arm → Instruction → Plan → Plan

@@ -71,7 +71,7 @@ from_with_broadcast : (j : ℕ) (b : Broadcast) (p : Place) → is_from j (broad
 from_with_broadcast j b place.Nothing = refl
 from_with_broadcast j b (place.Register reg) = refl
 from_with_broadcast j b place.Branch = refl
-from_with_broadcast j b (place.Operand k label segment short mask none) = refl
+from_with_broadcast j b (place.Operand k label segment short mask _) = refl
 
 module _ (arm : Arm) (i : Instruction) where
   decorated_in_order : (plan : Plan) → T (in_order plan) → T (in_order (decorated arm i plan))

@@ -7,8 +7,10 @@ use lib.ListN.{length}
 use borrow.Author.Rules.{rules}
 use Rattle.stdio.proofs.read_more.Goals as goal
 
-pub returns-in-Ok : goal.returns-in-Ok
-returns-in-Ok g c = record { count_in_bounds = omega arith; input_unchanged = take_put c.args.held (length c.args.input.now - c.args.held) c.args.input.now c.read.new.1.0 (omega (arith, c.requires)) }
+pub returns-in-Ok-clause-input_unchanged : goal.returns-in-Ok-clause-input_unchanged
+returns-in-Ok-clause-input_unchanged g c =
+    take_put c.args.held (length c.args.input.now - c.args.held) c.args.input.now c.read.new.buf (omega (arith, c.requires))
 
-pub returns-in-Err : goal.returns-in-Err
-returns-in-Err g c = record { count_in_bounds = search rules; input_unchanged = take_put c.args.held (length c.args.input.now - c.args.held) c.args.input.now c.read.new.1.0 (omega (arith, c.requires)) }
+pub returns-in-Err-clause-input_unchanged : goal.returns-in-Err-clause-input_unchanged
+returns-in-Err-clause-input_unchanged g c =
+    take_put c.args.held (length c.args.input.now - c.args.held) c.args.input.now c.read.new.buf (omega (arith, c.requires))
