@@ -17,7 +17,7 @@ use Rattle.names.specs.Labels.{labels, label_word}
 use Rattle.places.specs.Labels.{label_at}
 use Rattle.places.specs.Places.{operand_shown, item_at, items_at}
 use Rattle.arms.specs.Labels.{size_label, general_label}
-use Rattle.arms.specs.Decorations.{broadcast_count, tail_of, broadcast_refused}
+use Rattle.arms.specs.Decorations.{tail_of, broadcast_refused}
 use Rattle.arms.specs.Plans.{spread, general, places_of, decorated, plan_of}
 use Rattle.arms.specs.Shape.{shape_refused}
 use Rattle.arms.specs.Size.{size_refused}

@@ -1,4 +1,3 @@
-use Prim.Native.Nat.{◌-◌}
 use native.Mathlib.Omega.{arith}
 use Rattle.compared.proofs.Passing.{going_start, going_on, less_left, passes_full, passes_step}
 use Rattle.compared.proofs.pass.pass.Goals as goal
