@@ -1,16 +1,14 @@
 -- What stands in front, of a listing or of a body alone: its text, how many bytes belong to it, and what follows.
 -- Assumes nothing.
 use mathlib.Core.Path.{◌≡◌, refl, sym, ap, ◌∙◌}
-use mathlib.Core.Bool.{Bool, true, false, cond}
+use mathlib.Core.Bool.{Bool, true, false}
 use mathlib.Core.List.{List, [], ◌++◌, append-nil}
 use Prim.Native.Nat.{ℕ, ◌+◌, ◌-◌, ◌≤◌, ◌<◌}
 use native.Mathlib.Omega.{arith}
 use lib.ListN.{length, take, drop, length-drop}
 use lib.Seq.{drop-length, take-length}
 use Rattle.answers.specs.Refusals.{answer_of}
-use Rattle.frames.specs.Frames.{is_whole, body_of, frame_size}
-use Rattle.frames.specs.Code.{frame_at}
-use Rattle.frames.specs.declared.Frame.{Frame}
+use Rattle.frames.specs.Frames.{is_whole, body_of}
 use Rattle.frames.specs.declared.Frame.TheVariants.{Whole, Cut}
 use Rattle.frames.proofs.FrameAt.{whole_at, cut_at, size_whole, size_cut}
 use Rattle.lines.specs.Text.{longest_line}
@@ -20,7 +18,7 @@ use Rattle.records.specs.Records.{refusals}
 use Rattle.records.specs.Judged.{text_of}
 use Rattle.records.proofs.Texts.{alone_short}
 use Rattle.records.proofs.Empty.{empty_text}
-use Rattle.listings.specs.Lines.{cut_line, front_line, lines_of}
+use Rattle.listings.specs.Lines.{cut_line, front_line}
 use Rattle.listings.specs.Code.{stands_at, front_of, size_of, all_of}
 use Rattle.listings.proofs.LineLaws.{frame_some, frame_within, lines_none, lines_some, front_most}
 

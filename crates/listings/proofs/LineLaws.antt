@@ -1,6 +1,6 @@
 -- Laws of the lines of a listing: the line in front and those after it, and how long they can be.
 -- Assumes nothing.
-use mathlib.Core.Path.{◌≡◌, refl, sym, ap, ◌∙◌}
+use mathlib.Core.Path.{◌≡◌, refl, sym, ap}
 use mathlib.Core.Bool.{Bool, true, false, ◌&&◌, cond}
 use mathlib.Core.List.{List, [], ◌∷◌, ◌++◌}
 use Prim.Native.Nat.{ℕ, zero, suc, ◌+◌, ◌-◌, ◌*◌, ◌≤◌, ◌<◌}
@@ -10,7 +10,6 @@ use lib.Dec.{leb, lit≤}
 use lib.ListN.{length, drop, length-append, length-drop}
 use lib.Seq.{length-take-le}
 use borrow.Author.Tests.{leb-true}
-use Rattle.text.specs.Words.{empty}
 use Rattle.frames.specs.Frames.{body_length, is_whole, body_of, frame_size}
 use Rattle.lines.specs.Text.{longest_line}
 use Rattle.records.specs.declared.Asked.{Asked}

@@ -1,6 +1,6 @@
 -- The lines of a listing: one for each frame, and those that no record has.
 -- Assumes nothing.
-use Rattle.std.specs.Prelude.{Bool, cond, List, [], ◌∷◌, ◌++◌, ℕ, zero, suc, ◌+◌, length, drop}
+use Rattle.std.specs.Prelude.{cond, List, [], ◌∷◌, ◌++◌, ℕ, zero, suc, length, drop}
 use Rattle.text.specs.Words.{bytes, empty}
 use Rattle.answers.specs.Lines.{newline}
 use Rattle.frames.specs.Frames.{is_whole, body_of, frame_size, known_version}

@@ -1,6 +1,6 @@
 -- The outcome of the listing entry point for all listings, all that is asked, and all buffers.
 -- Assumes nothing.
-use Rattle.std.specs.Prelude.{Bool, List, [], ◌∷◌, ℕ, ltb}
+use Rattle.std.specs.Prelude.{List, [], ◌∷◌, ℕ, ltb}
 use Rattle.std.proofs.Math.ListN as list
 use Rattle.answers.specs.Refusals.{Refusal, refusal, mode, length, answer_of}
 use Rattle.answers.specs.Outcomes.{Outcome, outcome_of, with_room}

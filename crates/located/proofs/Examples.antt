@@ -1,6 +1,6 @@
 -- Worked texts, computed from the definitions.
 -- Assumes nothing.
-use Rattle.std.proofs.Common.{◌≡◌, ℕ, List, [], ◌∷◌, ◌++◌, refl}
+use Rattle.std.proofs.Common.{◌≡◌, [], ◌∷◌, ◌++◌, refl}
 use Rattle.text.specs.Words.{bytes}
 use Rattle.numerals.specs.Digits.{digit, digits}
 use Rattle.numerals.specs.Decimals.{decimal_within, decimal}

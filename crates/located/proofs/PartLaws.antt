@@ -1,6 +1,6 @@
 -- Laws of the parts of a listing: the part in front and those after it.
 -- Assumes nothing.
-use Rattle.std.proofs.Common.{◌≡◌, ℕ, zero, suc, ◌+◌, ◌-◌, ◌<◌, ◌≤◌, Bool, false, cond, not, ltb, List, [], ◌∷◌, ◌++◌, length, drop, sym, refl, ap, ◌∙◌, not-suc-le-zero, arith, length-drop, lt-ltb}
+use Rattle.std.proofs.Common.{◌≡◌, ℕ, zero, suc, ◌+◌, ◌-◌, ◌<◌, ◌≤◌, Bool, false, cond, ltb, List, [], ◌∷◌, ◌++◌, length, drop, sym, refl, ap, ◌∙◌, not-suc-le-zero, arith, length-drop, lt-ltb}
 use Rattle.text.specs.Choice.{when}
 use Rattle.frames.specs.Frames.{body_length, is_whole, body_of, frame_size}
 use Rattle.frames.proofs.FrameAt.{size_whole}

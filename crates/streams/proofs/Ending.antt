@@ -31,9 +31,9 @@ use Rattle.streams.specs.declared.Passed.{Passed}
 use Rattle.streams.specs.declared.Stage.{Stage}
 use Rattle.streams.specs.declared.Stage.TheVariants.{Version, Frames, Skip, Done}
 use Rattle.streams.specs.declared.Next.{Next}
-use Rattle.streams.specs.declared.Next.TheVariants.{Full, Read, Whole, Cut, Unknown}
+use Rattle.streams.specs.declared.Next.TheVariants.{Read, Whole, Cut, Unknown}
 use Rattle.listings.proofs.LineLaws.{frame_some}
-use Rattle.streams.proofs.Stepping.{Bounded, bounded}
+use Rattle.streams.proofs.Stepping.{bounded}
 use Rattle.streams.proofs.Streaming.{part_cut, all_whole, length_stays, after_stays, ltb_shift}
 
 -- it does not matter how many frames are allowed for, if there are enough

@@ -3,25 +3,23 @@
 use mathlib.Core.Path.{◌≡◌, refl, sym, ap, ap₂, subst, ◌∙◌}
 use mathlib.Core.Bool.{true, false}
 use mathlib.Core.List.{List, [], ◌∷◌}
-use mathlib.Core.Logic.{◌⊎◌, inl, inr}
 use Prim.Native.Nat.{ℕ, suc, ◌+◌, ◌-◌, ◌*◌, ◌≤◌, ◌<◌}
 use native.Mathlib.Omega.{arith}
-use lib.ListN.{length, take, drop, length-append}
+use lib.ListN.{length, take, drop}
 use lib.Dec.{eqb, ltb, lit≤}
 use borrow.Author.Tests.{lt-ltb, le-ltb, ltb-true, ltb-false}
 use Rattle.text.proofs.Choosing.{cond_by}
 use Rattle.text.specs.Code.{Put}
 use Rattle.text.proofs.Putting.{put_as}
 use Rattle.answers.specs.Refusals.{mode as mode_number, length as length_number, answer_of}
-use Rattle.answers.specs.Lines.{newline, refused_line}
+use Rattle.answers.specs.Lines.{refused_line}
 use Rattle.answers.proofs.Lines.{refused_most}
-use Rattle.answers.proofs.Unique.{none_or_some}
 use Rattle.frames.specs.Numbers.{byte, word}
 use Rattle.frames.specs.Frames.{body_length, body_of, known_version}
 use Rattle.bodies.specs.Refusals.{longest_body}
 use Rattle.lines.specs.Text.{longest_line}
 use Rattle.records.specs.declared.Asked.{Asked}
-use Rattle.records.specs.Records.{asked_refused, in_version, refusals, record_text}
+use Rattle.records.specs.Records.{asked_refused, in_version, refusals}
 use Rattle.records.specs.Lines.{record_line}
 use Rattle.records.specs.Judged.{text_of}
 use Rattle.records.specs.Judged.{Puts}

@@ -3,7 +3,7 @@
 use mathlib.Core.Path.{◌≡◌, refl, sym, ap, ap₂, ◌∙◌}
 use mathlib.Core.Bool.{Bool, true, false, ◌&&◌}
 use mathlib.Core.List.{List, [], ◌∷◌, ◌++◌, append_assoc, append-nil}
-use Prim.Native.Nat.{ℕ, zero, suc, ◌+◌, ◌-◌, ◌*◌, ◌^◌, ◌≤◌, ◌<◌}
+use Prim.Native.Nat.{ℕ, zero, suc, ◌+◌, ◌-◌, ◌^◌, ◌≤◌, ◌<◌}
 use native.Mathlib.Omega.{arith}
 use lib.Dec.{ltb, leb, lit≤}
 use lib.ListN.{length, take, drop, length-append, length-drop, get_or-append, drop_of_length-le}
@@ -30,7 +30,7 @@ use Rattle.streams.specs.Code.{remaining}
 use Rattle.streams.specs.Stream.Streams.{read, step, end}
 use Rattle.streams.specs.declared.Stage.{Stage}
 use Rattle.streams.specs.declared.Stage.TheVariants.{Version, Frames, Skip, Done}
-use Rattle.streams.proofs.Stepping.{skipped_some, Bounded, bounded}
+use Rattle.streams.proofs.Stepping.{skipped_some, bounded}
 use Rattle.listings.proofs.LineLaws.{lines_none, lines_some}
 use Rattle.listings.proofs.Fronts.{front_whole, front_cut}
 

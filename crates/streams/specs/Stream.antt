@@ -2,7 +2,6 @@
 -- Assumes nothing.
 use Rattle.std.specs.Prelude.{◌≡◌, Bool, true, false, cond, List, [], ◌∷◌, ◌++◌, ℕ, ◌+◌, ◌-◌, ◌≤◌, ◌<◌, ltb, eqb, length, drop}
 use Rattle.text.specs.Choice.{when}
-use Rattle.text.specs.Code.{Put}
 use Rattle.frames.specs.Frames.{body_length, body_of, known_version}
 use Rattle.bodies.specs.Refusals.{longest_body}
 use Rattle.answers.specs.Lines.{refused_line}
@@ -10,8 +9,7 @@ use Rattle.answers.specs.Refusals.{mode as mode_number, length as length_number,
 use Rattle.records.specs.declared.Asked.{Asked}
 use Rattle.records.specs.Records.{asked_refused, in_version, refusals}
 use Rattle.records.specs.Lines.{record_line}
-use Rattle.listings.specs.Lines.{cut_line, version_line, lines_of, listing_text}
-use Rattle.streams.specs.declared.Step.{Step}
+use Rattle.listings.specs.Lines.{cut_line, version_line}
 use Rattle.streams.specs.declared.Stage.{Stage}
 use Rattle.streams.specs.declared.Stage.TheVariants.{Version, Frames, Skip, Done}
 

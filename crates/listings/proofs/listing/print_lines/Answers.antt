@@ -20,17 +20,17 @@ returns-then-text-measured c = let a = c.args in
 pub walk-printed-requires : goal.walk-printed-requires
 walk-printed-requires c = let a = c.args in
     let fits : length (lines_of a.asked (drop 1 a.listing.now)) ≤ length a.text.now =
-        elim c.if-text-listing.branch [
-            then-text-listing+else-text-measured w ↦ omega (arith, lines-total w.walk-measured.ensures, w.if-text-measured.false) |
-            else-text-listing w ↦ omega (arith, w.if-text-listing.false, lines_short a.asked (drop 1 a.listing.now), length-drop 1 a.listing.now)
-        ] in
+    elim c.if-text-listing.branch [
+      | then-text-listing+else-text-measured w ↦ omega (arith, lines-total w.walk-measured.ensures, w.if-text-measured.false)
+      | else-text-listing w ↦ omega (arith, w.if-text-listing.false, lines_short a.asked (drop 1 a.listing.now), length-drop 1 a.listing.now)
+    ] in
     record { mnemonic_table = c.requires.mnemonic_table; register_table = c.requires.register_table; label_table = c.requires.label_table; arm_table = c.requires.arm_table; bytes_nonzero = c.requires.listing_nonzero.0; walkable = lines_fit a.asked a.listing.now _ c.requires.listing_nonzero.1 fits }
 
 pub returns : goal.returns
 returns c = let a = c.args in
     let fits : length (lines_of a.asked (drop 1 a.listing.now)) ≤ length a.text.now =
-        elim c.if-text-listing.branch [
-            then-text-listing+else-text-measured w ↦ omega (arith, lines-total w.walk-measured.ensures, w.if-text-measured.false) |
-            else-text-listing w ↦ omega (arith, w.if-text-listing.false, lines_short a.asked (drop 1 a.listing.now), length-drop 1 a.listing.now)
-        ] in
+    elim c.if-text-listing.branch [
+      | then-text-listing+else-text-measured w ↦ omega (arith, lines-total w.walk-measured.ensures, w.if-text-measured.false)
+      | else-text-listing w ↦ omega (arith, w.if-text-listing.false, lines_short a.asked (drop 1 a.listing.now), length-drop 1 a.listing.now)
+    ] in
     text_printed (lines_of a.asked (drop 1 a.listing.now)) fits (lines_put c.walk-printed.ensures)

@@ -1,5 +1,4 @@
 use mathlib.Core.Path.{refl}
-use Prim.Native.Nat.{◌-◌}
 use native.Mathlib.Omega.{arith}
 use Rattle.listings.proofs.Walking.{walking, first_place, front-room, front-after, total-number, step_further, step_within, walked, walked_through}
 use Rattle.listings.proofs.walk.walk.Goals as goal

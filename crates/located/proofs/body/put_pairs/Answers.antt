@@ -1,4 +1,4 @@
-use Rattle.std.proofs.Common.{◌+◌, ◌-◌, drop, refl, ◌∙◌, arith}
+use Rattle.std.proofs.Common.{◌+◌, drop, refl, ◌∙◌, arith}
 use Rattle.text.proofs.Putting.{first, left_all, left_as, left_next, left_none}
 use Rattle.located.specs.Parts.{room_after, pairs}
 use Rattle.located.proofs.BodyTexts.{pairs_next, pairs_end}

@@ -1,4 +1,4 @@
-use Rattle.std.proofs.Common.{◌-◌, arith}
+use Rattle.std.proofs.Common.{arith}
 use Rattle.located.proofs.Passing.{going_start, going_on, uses_within, counts_within, refuses_within, passes_full, passes_rest}
 use Rattle.located.proofs.pass.pass.Goals as goal
 

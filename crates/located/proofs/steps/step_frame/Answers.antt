@@ -1,6 +1,6 @@
 -- `located::steps::step_frame` meets its contract: too few bytes for a length, too few for the frame, or a whole one.
 -- Assumes nothing.
-use Rattle.std.proofs.Common.{◌+◌, ◌-◌, ◌^◌, ◌<◌, length, take, drop, arith, length-drop, length-take-le}
+use Rattle.std.proofs.Common.{◌+◌, ◌-◌, ◌^◌, ◌<◌, take, drop, arith, length-drop, length-take-le}
 use Rattle.streams.proofs.Streaming.{part_cut}
 use Rattle.located.proofs.RecordParts.{part_short}
 use Rattle.located.proofs.Going.{steps_none, steps_whole}

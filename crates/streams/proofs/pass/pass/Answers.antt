@@ -1,5 +1,4 @@
 use Rattle.streams.proofs.Passing.{going_start, going_on, uses_within, counts_within, refuses_within, passes_full, passes_rest}
-use Prim.Native.Nat.{◌-◌}
 use native.Mathlib.Omega.{arith}
 use Rattle.streams.proofs.pass.pass.Goals as goal
 
