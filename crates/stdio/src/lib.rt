@@ -341,9 +341,15 @@ fn report<R: Eprint>(rt: &R, tally: Tally, end: End, cut: u64) {
         End::More => eprint!(rt; "list: {records} records, {refused} refused; "),
         End::Whole => eprintln!(rt; "list: {records} records, {refused} refused; whole"),
         End::Cut => eprintln!(rt; "list: {records} records, {refused} refused; cut at byte {cut}"),
-        End::Unknown => eprintln!(rt; "list: {records} records, {refused} refused; unknown version"),
-        End::ReadFailed => eprintln!(rt; "list: {records} records, {refused} refused; standard input cannot be read"),
-        End::WriteFailed => eprintln!(rt; "list: {records} records, {refused} refused; standard output cannot be written"),
+        End::Unknown => eprintln!(rt;
+            "list: {records} records, {refused} refused; unknown version"
+        ),
+        End::ReadFailed => eprintln!(rt;
+            "list: {records} records, {refused} refused; standard input cannot be read"
+        ),
+        End::WriteFailed => eprintln!(rt;
+            "list: {records} records, {refused} refused; standard output cannot be written"
+        ),
     };
 }
 
@@ -397,7 +403,12 @@ pub fn run<R: Print + Eprint + Input>(rt: &R, mode: u32) {
         } else {
             let stage = last.stage;
             let tally = last.tally;
-            report(rt, tally, end, less(tally.used, streams::stream::begun(stage)));
+            report(
+                rt,
+                tally,
+                end,
+                less(tally.used, streams::stream::begun(stage)),
+            );
             return;
         }
     }

@@ -1,4 +1,3 @@
-use Prim.Native.Nat.{◌-◌}
 use native.Mathlib.Omega.{arith}
 use Rattle.stdio.proofs.Moving.{moving_start, moving_on, moved}
 use Rattle.stdio.proofs.move_down.Goals as goal

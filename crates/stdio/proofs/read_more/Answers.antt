@@ -4,7 +4,6 @@ use Prim.Native.Nat.{◌-◌}
 use native.Mathlib.Omega.{arith}
 use borrow.Rule.Slice.PartMut.{take_put}
 use lib.ListN.{length}
-use borrow.Author.Rules.{rules}
 use Rattle.stdio.proofs.read_more.Goals as goal
 
 pub returns-in-Ok-clause-input_unchanged : goal.returns-in-Ok-clause-input_unchanged

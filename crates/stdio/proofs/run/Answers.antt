@@ -3,7 +3,6 @@ use native.Mathlib.Omega.{arith}
 use Rattle.names.specs.Opcodes.{arms as arm_table, opcodes}
 use Rattle.stdio.proofs.run.Goals as goal
 
-
 pub loop-turns-init : goal.loop-turns-init
 loop-turns-init g c = ((omega arith, omega arith), (tt, (sym c.large_buffer-input.ensures, sym c.large_buffer-text.ensures)))
 

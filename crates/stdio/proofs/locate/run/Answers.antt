@@ -3,7 +3,6 @@ use native.Mathlib.Omega.{arith}
 use Rattle.names.specs.Opcodes.{arms as arm_table, opcodes}
 use Rattle.stdio.proofs.locate.run.Goals as goal
 
-
 pub loop-turns-init : goal.loop-turns-init
 loop-turns-init g c = ((omega arith, omega arith), (sym c.input_buffer-input.ensures, sym c.text_buffer-text.ensures))
 
