@@ -4,10 +4,10 @@ use mathlib.Core.Bool.{Bool, true, false, cond}
 use mathlib.Core.List.{List, [], ◌∷◌, ◌++◌, map, append_assoc}
 use mathlib.Core.Option
 use mathlib.Core.Option.{Option, none, some}
-use Prim.Native.Nat.{ℕ, ◌+◌, ◌*◌}
+use Prim.Native.Nat.{ℕ, ◌*◌}
 use native.Mathlib.Nat.{zero-add, mul-one, one-mul, zero-mul}
 use lib.Dec.{T}
-use lib.IntN.{ℤ, pos, negsuc, neg_ℤ, ◌+ℤ◌, ◌*ℤ◌, +ℤ_idl}
+use lib.IntN.{ℤ, pos, negsuc, neg_ℤ, ◌*ℤ◌, +ℤ_idl}
 use Rattle.masm.specs.Tokens.{bytes, Token, word, sign, tokens, ◌>>=◌}
 use Rattle.masm.specs.Expressions.{numeral, Register, Value, value, constant, zero, one, multiple, dollar, plus, mark, product}
 use Rattle.masm.specs.Expressions.{Level, level, with, State, wants, has, part_of, step, run, settled, expression}

@@ -8,7 +8,7 @@ use Prim.Native.String.{String}
 use lib.ListN.{length}
 use Rattle.masm.specs.Tokens.{bytes}
 use Rattle.masm.specs.Operands.{Byte, Word, Dword, Qword, Tbyte, Xmmword, Zmmword, times_in, Operand, register, immediate, sized, branch, address}
-use Rattle.masm.specs.Lines.{Prefix, Lock, Rep, Repe, Repne, Tail, Sae, Nearest, Down, Up, Zero, Reading, shows, no_instruction, refused, read}
+use Rattle.masm.specs.Lines.{Prefix, Lock, Rep, Repe, Repne, Tail, Sae, Nearest, Down, Zero, Reading, shows, no_instruction, refused, read}
 
 abbrev says : List Prefix → String → List Operand → Option Tail → Reading
 says prefixes name operands tail = shows (record { prefixes = prefixes; mnemonic = bytes name; operands = operands; tail = tail })

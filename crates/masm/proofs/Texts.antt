@@ -3,7 +3,7 @@ use mathlib.Core.Path.{◌≡◌, refl, ap, sym, ◌∙◌}
 use mathlib.Core.Bool.{Bool, true, false, cond, ◌||◌}
 use mathlib.Core.List.{List, [], ◌∷◌, ◌++◌, append-nil}
 use mathlib.Core.Option.{Option, none, some, map, none-ne-some}
-use Prim.Native.Nat.{ℕ, ◌+◌, ◌%◌, ◌^◌}
+use Prim.Native.Nat.{ℕ, ◌%◌, ◌^◌}
 use lib.Dec.{T}
 use lib.Ieee.Bits.{is_true}
 use lib.IntN.{pos, neg_ℤ, ◌+ℤ◌, +ℤ_idl}
