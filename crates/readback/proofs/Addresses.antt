@@ -8,7 +8,7 @@ use Prim.Native.Nat.{ℕ, suc, ◌+◌, ◌<◌}
 use native.Mathlib.Nat.{add-zero, zero-add}
 use native.Mathlib.Omega.{arith}
 use lib.Dec.{eqb}
-use lib.IntN.{ℤ, pos, negsuc, ◌+ℤ◌, +ℤ_idl}
+use lib.IntN.{ℤ, pos, negsuc, +ℤ_idl}
 use mir.Syntax.{w32}
 use mir.Val.{SFits}
 use Rattle.text.specs.Choice.{when}

@@ -27,7 +27,7 @@ use Rattle.branches.specs.declared.Mode.{Mode}
 use Rattle.names.specs.declared.Arm.{Arm}
 use Rattle.branches.specs.declared.Mode.TheVariants as mode
 use Rattle.branches.specs.declared.Mode.TheVariants.{Crate, Straight}
-use Rattle.branches.specs.Sums.{signed, short_sum, branch_sum, target_of, branch_shown}
+use Rattle.branches.specs.Sums.{signed, short_sum, branch_sum, branch_shown}
 use Rattle.branches.proofs.Wrapping.{Within, signed_within}
 use Rattle.places.specs.Labels.{label_at}
 use Rattle.places.specs.Places.{segment_shown, value_shown, mask_shown, operand_shown, item_at}
