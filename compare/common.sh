@@ -63,14 +63,14 @@ find_kit() {
     if [ -z "$kit" ] && command -v rt >/dev/null 2>&1; then
         kit=$(dirname "$(dirname "$(readlink -f "$(command -v rt)")")")
     fi
-    tools=$kit/on/$machine/toolchain
+    tools=$kit/toolchain
     [ -d "$tools" ] || tools=
     emulator=
     if [ "$machine" != x86_64 ]; then
         if [ -x "$tools/bin/qemu-x86_64" ]; then
             emulator=$tools/bin/qemu-x86_64
         else
-            emulator=$(command -v qemu-x86_64) || not_run "there is no emulator of x86-64 (the kit has one beside its compiler)"
+            emulator=$(command -v qemu-x86_64) || not_run "there is no emulator of x86-64 (qemu-x86_64)"
         fi
     fi
 }

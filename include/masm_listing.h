@@ -1,7 +1,7 @@
 /*
  * The listing printer, called from C: MASM lines for record bodies and for whole listings.
  *
- * Link with target/staticlib/libhost.a (`rt staticlib host`), or as `pkg-config --libs masm_listing` says
+ * Link with target/staticlib/libhost.a (`commands/make . rt archive host`), or as `pkg-config --libs masm_listing` says
  * where ./install has put it in place; it is for x86-64 Linux and needs memcpy and nothing else. This header
  * is C99, and C++ reads it too; nothing older than C99 does (stdint.h, inline).
  *

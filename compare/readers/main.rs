@@ -253,7 +253,7 @@ fn of_antt(operand: &Operand) -> String {
             let counts = list(counts.iter().map(|(r, n)| format!("({r}, {n})")));
             let mask = option(mask.map(|mask| mask.to_string()));
             let broadcast = option(broadcast.map(|n| n.to_string()));
-            format!("address {label} {segment} (timesIn {counts}) {disp} {mask} {broadcast}")
+            format!("address {label} {segment} (times_in {counts}) {disp} {mask} {broadcast}")
         }
     }
 }
@@ -267,7 +267,7 @@ fn stored(count: u64, seed: u64) {
             continue;
         }
         let reading = match port::read(0x1000, &line) {
-            Reading::NoInstruction => "no-instruction".into(),
+            Reading::NoInstruction => "no_instruction".into(),
             Reading::Refused => "refused".into(),
             Reading::Shows { prefixes, mnemonic, operands, tail } => {
                 let tail = option(port::TAILS.iter().find(|entry| Some(entry.0) == tail).map(|entry| entry.1.into()));
@@ -279,14 +279,14 @@ fn stored(count: u64, seed: u64) {
     }
     print!("{}", include_str!("stored-head"));
     for (at, part) in entries.chunks(40).enumerate() {
-        println!("\nlines-{at} : List (String × Reading)\nlines-{at} =\n{}    []", part.concat());
-        println!("\nread-{at} : Read lines-{at}\nunfolding read lines-{at}\nread-{at} = refl");
+        println!("\nlines_{at} : List (String × Reading)\nlines_{at} =\n{}    []", part.concat());
+        println!("\nread_{at} : Read lines_{at}\nunfolding read lines_{at}\nread_{at} = refl");
     }
     // none may go missing in silence
     let parts = entries.chunks(40).len();
-    let names = |before: &str| (0..parts).map(|at| format!("{before}lines-{at}")).collect::<Vec<_>>();
+    let names = |before: &str| (0..parts).map(|at| format!("{before}lines_{at}")).collect::<Vec<_>>();
     println!(
-        "\n-- a second hold: how many there are\nstored-lines : {} ≡ {count}\nunfolding {}\nstored-lines = refl",
+        "\n-- a second hold: how many there are\nstored_lines : {} ≡ {count}\nunfolding {}\nstored_lines = refl",
         names("length ").join(" + "),
         names("").join(" ")
     );
