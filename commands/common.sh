@@ -36,7 +36,7 @@ find_kit() {
     rt=$(command -v rt) || rt=
     kit=${RATTLE_HOME:-}
     if [ -z "$kit" ] && [ -n "$rt" ]; then kit=$(dirname "$(dirname "$(readlink -f "$rt")")"); fi
-    tools=$kit/on/$machine/toolchain
+    tools=$kit/toolchain
     if [ -z "$kit" ] || [ ! -d "$tools" ]; then tools=; fi
     loader=
     if [ -n "$tools" ] && [ -f "$tools/lib/ld-linux-x86-64.so.2" ]; then loader=$tools/lib/ld-linux-x86-64.so.2; fi

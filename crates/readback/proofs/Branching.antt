@@ -39,7 +39,7 @@ use Rattle.records.specs.declared.Asked.{Asked}
 use Rattle.masm.specs.Operands.{Width, branch}
 use Rattle.readback.specs.Meaning.{width_of, meaning}
 use Rattle.readback.specs.Printed.{Printed}
-use Rattle.readback.specs.Targets.{BranchRecord, short, long, distance_of, record_target, BranchesTo, mode0Sum, mode0Width, no_short_form, straight_width, FitsByte, FitsMode0}
+use Rattle.readback.specs.Targets.{BranchRecord, short, long, distance_of, record_target, BranchesTo, mode0_sum, mode0_width, no_short_form, straight_width, FitsByte, FitsMode0}
 use Rattle.readback.proofs.Sums.{by_sign_lem, same_if_fits, fits_if_same, Short, sum_within_lem, after_start, without_start, wide_sum}
 use Rattle.readback.proofs.Readback.{well, reads_back}
 
@@ -131,7 +131,7 @@ module _ (i : Instruction) where
   sum_long mode k = rw k
 
   -- mode 0 wraps in the width of the distance
-  sum_in_mode_0 : BranchRecord i → sum_of Crate i ≡ mode0Sum i
+  sum_in_mode_0 : BranchRecord i → sum_of Crate i ≡ mode0_sum i
   unfolding branch_sum
   sum_in_mode_0 (short h k) = rw k
   sum_in_mode_0 (long h k) = rw k
@@ -167,7 +167,7 @@ module _ (i : Instruction) where
   width_straight (xbegin e k n) r = rw (e, n)
 
   -- mode 0 goes by kind and sum
-  width_in-mode_0 : BranchRecord i → width_in Crate i ≡ mode0Width i
+  width_in-mode_0 : BranchRecord i → width_in Crate i ≡ mode0_width i
   width_in-mode_0 r =
       near_width (eqb (immediate_kind i.a) i32 && from128to255 (sum_of Crate i))
       ∙ ap (λ (z : ℤ). cond (eqb (immediate_kind i.a) i32 && from128to255 z) (some 32) none) (sum_in_mode_0 i r)
@@ -293,22 +293,22 @@ module _ {asked : Asked} {body : List ℕ} (p : Printed asked body) where
     sums_0 : shows_sum (mode_of asked) ≡ true
     sums_0 = sum-asked asked (omega arith)
 
-    shown_mode_0 : width_in (mode_of asked) (record_of asked.version body) ≡ mode0Width (record_of asked.version body)
+    shown_mode_0 : width_in (mode_of asked) (record_of asked.version body) ≡ mode0_width (record_of asked.version body)
     shown_mode_0 = rw (crate-asked asked m) (width_in-mode_0 (record_of asked.version body) r)
 
     -- Mode 0: it is read as a branch to the start plus the sum as it wraps, modulo 2^32, with the width of mode 0,
-    pub mode_0_shown : BranchesTo start (record_text asked body) (mode0Width (record_of asked.version body)) (modulo (pos start +ℤ mode0Sum (record_of asked.version body)))
+    pub mode_0_shown : BranchesTo start (record_text asked body) (mode0_width (record_of asked.version body)) (modulo (pos start +ℤ mode0_sum (record_of asked.version body)))
     mode_0_shown =
         goes p sums_0 r start shown_mode_0 (rw (crate-asked asked m) (ap (λ (z : ℤ). modulo (pos start +ℤ z)) (sum_in_mode_0 (record_of asked.version body) r)))
 
     -- and with no other.
     pub mode_0_width_only : {width : Option Width} {target : ℕ} → BranchesTo start (record_text asked body) width target
-        → mode0Width (record_of asked.version body) ≡ width
+        → mode0_width (record_of asked.version body) ≡ width
     mode_0_width_only b = sym shown_mode_0 ∙ (goes_only p sums_0 r start b).0
 
     -- It goes to the target exactly where the distance is 32 bits wide, or its sum with the length is from -128 to 127.
     goes_if_fits : BranchRecord (record_of asked.version body) → FitsMode0 (record_of asked.version body)
-        → BranchesTo start (record_text asked body) (mode0Width (record_of asked.version body)) (record_target start (record_of asked.version body))
+        → BranchesTo start (record_text asked body) (mode0_width (record_of asked.version body)) (record_target start (record_of asked.version body))
     goes_if_fits (short h k) (inl e) = absurd (omega arith)
     goes_if_fits (short h k) (inr f) = goes p sums_0 r start shown_mode_0 (rw (crate-asked asked m) (short_fits (record_of asked.version body) (well p) k start f))
     goes_if_fits (long h k) c = goes p sums_0 r start shown_mode_0 (rw (crate-asked asked m) (long_target (record_of asked.version body) Crate start k))
@@ -323,6 +323,6 @@ module _ {asked : Asked} {body : List ℕ} (p : Printed asked body) where
         → FitsMode0 (record_of asked.version body)
     mode_0_only b = fits_if_goes r b
 
-    pub mode_0_branch : BranchesTo start (record_text asked body) (mode0Width (record_of asked.version body)) (record_target start (record_of asked.version body))
+    pub mode_0_branch : BranchesTo start (record_text asked body) (mode0_width (record_of asked.version body)) (record_target start (record_of asked.version body))
         ↔ FitsMode0 (record_of asked.version body)
     mode_0_branch = (mode_0_only, goes_if_fits r)

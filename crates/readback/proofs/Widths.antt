@@ -19,7 +19,7 @@ use Rattle.records.specs.Records.{record_text}
 use Rattle.records.specs.declared.Asked.{Asked}
 use Rattle.masm.specs.Operands.{Width}
 use Rattle.readback.specs.Printed.{Printed}
-use Rattle.readback.specs.Targets.{BranchRecord, short, long, BranchesTo, ShowsNumber, mode0Sum, mode0Width, no_short_form, straight_width, StraightWidth, Mode0Width}
+use Rattle.readback.specs.Targets.{BranchRecord, short, long, BranchesTo, ShowsNumber, mode0_sum, mode0_width, no_short_form, straight_width, StraightWidth, Mode0Width}
 use Rattle.readback.proofs.Branching.{straight_width_only, mode_0_width_only}
 use Rattle.readback.proofs.Targets.{mode_2_only}
 
@@ -53,13 +53,13 @@ module _ (i : Instruction) where
   straight_tells r = straight_by (no_short_form i) refl r
 
   -- by whether `near ptr` is called for
-  mode_0_by : (b : Bool) → (eqb (immediate_kind i.a) i32 && from128to255 (mode0Sum i)) ≡ b → Mode0Width i (cond b (some 32) none)
+  mode_0_by : (b : Bool) → (eqb (immediate_kind i.a) i32 && from128to255 (mode0_sum i)) ≡ b → Mode0Width i (cond b (some 32) none)
   mode_0_by true e =
       record {
         bits_32 = (
           λ w. (
-            eqb-true (immediate_kind i.a) i32 (both_left (eqb (immediate_kind i.a) i32) (from128to255 (mode0Sum i)) e),
-            both_right (eqb (immediate_kind i.a) i32) (from128to255 (mode0Sum i)) e,
+            eqb-true (immediate_kind i.a) i32 (both_left (eqb (immediate_kind i.a) i32) (from128to255 (mode0_sum i)) e),
+            both_right (eqb (immediate_kind i.a) i32) (from128to255 (mode0_sum i)) e,
           ),
           λ q. refl,
         );
@@ -71,8 +71,8 @@ module _ (i : Instruction) where
         else_none = inr refl;
       }
 
-  mode_0_tells : Mode0Width i (mode0Width i)
-  mode_0_tells = mode_0_by (eqb (immediate_kind i.a) i32 && from128to255 (mode0Sum i)) refl
+  mode_0_tells : Mode0Width i (mode0_width i)
+  mode_0_tells = mode_0_by (eqb (immediate_kind i.a) i32 && from128to255 (mode0_sum i)) refl
 
 -- ---- The theorems
 

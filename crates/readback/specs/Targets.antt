@@ -60,12 +60,12 @@ pub record ShowsBranch (start : ℕ) (text : List ℕ) : Type 0 where
   pub target : any_target line.operands ≡ true
 
 -- "Mode 0 is the crate's: the sum wraps in the width of the distance", 8 bits for kind 3 and 32 for kind 5
-abbrev pub mode0Sum : Instruction → ℤ
-mode0Sum i = signed (cond (eqb (immediate_kind i.a) i8) 8 32) (immediate_of i.a + i.length)
+abbrev pub mode0_sum : Instruction → ℤ
+mode0_sum i = signed (cond (eqb (immediate_kind i.a) i8) 8 32) (immediate_of i.a + i.length)
 
 -- the width that mode 0's word gives: "kind 5 with a sum of 128 to 255 gets `near ptr ` in front", and no other branch has a word
-abbrev pub mode0Width : Instruction → Option Width
-mode0Width i = cond (eqb (immediate_kind i.a) i32 && from128to255 (mode0Sum i)) (some 32) none
+abbrev pub mode0_width : Instruction → Option Width
+mode0_width i = cond (eqb (immediate_kind i.a) i32 && from128to255 (mode0_sum i)) (some 32) none
 
 -- "CALL and XBEGIN, which have no short form": CALL is 1, and XBEGIN is 22
 abbrev pub no_short_form : Instruction → Bool
@@ -93,5 +93,5 @@ pub record StraightWidth (i : Instruction) (width : Option Width) : Type 0 where
 
 -- Mode 0: it is 32 exactly for kind 5 with a sum of 128 to 255, and there is none else.
 pub record Mode0Width (i : Instruction) (width : Option Width) : Type 0 where
-  pub bits_32 : (width ≡ some 32) ↔ ((immediate_kind i.a ≡ i32) × (from128to255 (mode0Sum i) ≡ true))
+  pub bits_32 : (width ≡ some 32) ↔ ((immediate_kind i.a ≡ i32) × (from128to255 (mode0_sum i) ≡ true))
   pub else_none : (width ≡ some 32) ⊎ (width ≡ none)
