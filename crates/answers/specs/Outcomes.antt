@@ -4,7 +4,7 @@ use Rattle.std.specs.Prelude.{◌≡◌, Bool, cond, ◌||◌, List, [], ◌∷�
 use Rattle.std.proofs.Math.ListN as list
 use Rattle.text.specs.Write.{write}
 use Rattle.answers.specs.Refusals.{Refusal, refusal, room}
-use Rattle.answers.specs.declared.Answer.{Answer}
+use Rattle.answers.specs.Reasons.{Answer, number_of_answer, length_of_answer}
 
 -- "6 room: the text is longer than the buffer"
 abbrev pub room_refused : List ℕ → List ℕ → Bool
@@ -33,6 +33,6 @@ outcome_of answer text buf =
 
 -- the answer given, and the buffer left, are those of the outcome
 pub record Gives (o : Outcome) (given : Answer) (buffer : List ℕ) : Type 0 where
-  pub answer : given.number ≡ o.answer
-  pub length : given.length ≡ o.length
+  pub answer : number_of_answer given ≡ o.answer
+  pub length : length_of_answer given ≡ o.length
   pub after : buffer ≡ o.buffer

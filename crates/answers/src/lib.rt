@@ -1,35 +1,58 @@
-// Answers: a number and a length. A refusal is its number, handed up as it is.
+// Answers: how many bytes were printed, or why none were.
 #![tactic(auto)]
 
-ghost use Rattle.std.specs.Prelude.{◌<◌};
+ghost use Rattle.std.specs.Prelude.{◌≡◌, ◌<◌};
 ghost use Rattle.text.specs.Code.{Room, Put};
 ghost use Rattle.answers.specs.Lines.{decimal, refused_text, refused_line};
 ghost use Rattle.answers.specs.Outcomes.{Gives};
 ghost use Rattle.answers.specs.Code.{text_outcome};
+ghost use Rattle.answers.specs.Reasons.{number_of};
+ghost use Rattle.answers.specs.declared.Refused.TheVariants.{For};
 
-// The numbers of documents 01 and 02.
-pub const PRINTED: u8 = 0;
-
-pub const MODE: u8 = 1;
-
-pub const LENGTH: u8 = 2;
-
-pub const FIELD: u8 = 3;
-
-pub const SHAPE: u8 = 4;
-
-pub const SIZE: u8 = 5;
-
-pub const ROOM: u8 = 6;
-
-pub const BROADCAST: u8 = 7;
-
-// An entry point's answer: 0 and the bytes written, 6 and the room that is asked for, or another refusal and 0.
-#[derive(Clone, Copy)]
-pub struct Answer {
-    pub number: u8,
-    pub length: usize,
+// Why a record, or what is asked, is refused before there is a buffer.
+#[derive(Clone, Copy, PartialEq, Eq)]
+pub enum Reason {
+    Mode,
+    Length,
+    Field,
+    Shape,
+    Size,
+    Broadcast,
 }
+
+impl Reason {
+    // Its number in documents 01 and 02.
+    pub fn number(self) -> u8
+        ensures { result ≡ number_of self }
+    {
+        match self {
+            Reason::Mode => 1,
+            Reason::Length => 2,
+            Reason::Field => 3,
+            Reason::Shape => 4,
+            Reason::Size => 5,
+            Reason::Broadcast => 7,
+        }
+    }
+}
+
+// Why an entry point prints nothing: there is a reason in what it was given, or the text needs more room than there is.
+#[derive(Clone, Copy, PartialEq, Eq)]
+pub enum Refused {
+    For(Reason),
+    Room { needed: usize },
+}
+
+impl From<Reason> for Refused {
+    ghost from_gives = { λ reason refused. refused ≡ For reason };
+
+    fn from(reason: Reason) -> Self {
+        Refused::For(reason)
+    }
+}
+
+// An entry point's answer: the number of bytes written, or why there are none.
+pub type Answer = Result<usize, Refused>;
 
 // What is said of a record that is refused, without the newline.
 pub fn put_refusal(text: &mut [u8], at: usize, n: u8) -> usize
@@ -57,10 +80,10 @@ fn put_decimal(text: &mut [u8], at: usize, n: u8) -> usize
     ensures { Put text.old at (decimal n) result text.new }
 {
     if n < 10 {
-        return text::put_byte(text, at, 48 + n);
+        return text::put_byte(text, at, b'0' + n);
     }
-    let next = text::put_byte(text, at, 48 + n / 10);
-    text::put_byte(text, next, 48 + n % 10)
+    let next = text::put_byte(text, at, b'0' + n / 10);
+    text::put_byte(text, next, b'0' + n % 10)
 }
 
 // A text that nothing refuses but the room.
@@ -68,14 +91,9 @@ pub fn print_text(printed: &[u8], text: &mut [u8]) -> Answer
     ensures { Gives (text_outcome printed.now text.old) result text.new }
 {
     if text.len() < printed.len() {
-        return Answer {
-            number: ROOM,
-            length: printed.len(),
-        };
+        return Err(Refused::Room {
+            needed: printed.len(),
+        });
     }
-    let length = text::put_bytes(text, 0, printed);
-    Answer {
-        number: PRINTED,
-        length,
-    }
+    Ok(text::put_bytes(text, 0, printed))
 }

@@ -18,6 +18,7 @@ use mathlib.Core.Bool.{
   and_self_left,
 }
 use Prim.Native.Nat.{ℕ}
+use native.Mathlib.Omega.{arith}
 use lib.Dec.{eqb}
 use borrow.Author.Tests.{not-false}
 use Rattle.operands.specs.Kinds.{is_absent, is_register, is_register_r, is_memory}
@@ -29,12 +30,11 @@ use Rattle.operands.specs.declared.Label.{Label}
 use Rattle.places.specs.declared.Segment.{Segment}
 use Rattle.places.specs.declared.Segment.TheVariants.{Hidden, Shown as Own, UnlessDs}
 use Rattle.places.specs.declared.Mask.TheVariants.{Itself}
-use Rattle.operands.specs.declared.Broadcast.{Broadcast}
-use Rattle.operands.specs.declared.Broadcast.TheVariants as broadcast
+use Rattle.std.specs.Prelude.{Option}
+use Rattle.std.specs.Prelude as option
 use Rattle.places.specs.declared.Place.{Place}
 use Rattle.places.specs.declared.Place.TheVariants as place
 use Rattle.places.specs.declared.Plan.{Plan}
-use Rattle.places.specs.Labels.{label_number}
 use Rattle.bodies.proofs.Picks.{neither_left, neither_right}
 use Rattle.names.specs.declared.Arm.{Arm}
 use Rattle.names.specs.declared.Arm.TheVariants as arms
@@ -65,18 +65,15 @@ use Rattle.arms.specs.Plans.{
 use Rattle.arms.specs.Shape.{shape_refused}
 use Rattle.arms.specs.Size.{has_label, general_path, general_refused, size_refused}
 use Rattle.arms.specs.Decorations.{broadcast_after}
-use Rattle.arms.specs.Missing.{place_misses, place_lacks, plan_lacks}
-use Rattle.arms.proofs.Labelled.{is_missing}
-use Rattle.arms.proofs.MissingSizes.{number_of_missing, missing_by_size, missing_with_tbyte, missing_for_lss, missing_in_general_path}
+use Rattle.arms.specs.Missing.{is_missing, place_misses, place_lacks, plan_lacks}
+use Rattle.arms.proofs.MissingSizes.{missing_by_size, missing_with_tbyte, missing_for_lss, missing_in_general_path}
 use Rattle.arms.proofs.ByArm.{first_memory, at_lss, at_lods}
 
 -- ---- A place that misses no label
 
 lacks_none : (i : Instruction) (p : Place) → place_misses p ≡ false → place_lacks i p ≡ false
-lacks_none i place.Nothing e = refl
-lacks_none i (place.Register reg) e = refl
-lacks_none i place.Branch e = refl
 lacks_none i (place.Operand k label segment short mask b) e = rw e
+lacks_none i _ e = refl
 
 -- where no place of a plan misses one, the plan lacks none
 pub misses_none :
@@ -97,9 +94,7 @@ misses_none i plan e =
 general_path_shares :
     (w x y a b c d : Bool) →
     (w && x && a || w && y && b || w && y && c || w && y && d) ≡ (w && (a && x || (b || c || d) && y))
-general_path_shares false x y a b c d = refl
-general_path_shares true x true a b c d = rw (and_comm x a) (simp (and-true, or_assoc))
-general_path_shares true x false a b c d = rw (and_comm x a) (simp (and-false, or-false))
+general_path_shares w x y a b c d = grind arith
 
 -- every operand with a label that may be missing
 lacking_spread :
@@ -107,7 +102,7 @@ lacking_spread :
     plan_lacks i (spread first later segment) ≡
     (is_missing first && is_memory i.a || is_missing later && is_memory i.b || is_missing later && is_memory i.c || is_missing later && is_memory i.d)
 unfolding plan_lacks spread
-lacking_spread first later segment i = rw (number_of_missing first, number_of_missing later)
+lacking_spread first later segment i = refl
 
 module _ (mmword first later : Bool) (segment : Segment) (i : Instruction) where
   lacking_path :
@@ -159,17 +154,17 @@ lacking_else i p x e = lacking_unless i p x (general_plan i) (general_refused fa
 -- ---- Arms with one label
 
 module _ (l : Label) (segment : Segment) (short : Bool) (k : ℕ) (i : Instruction) where
-  lacking_first : plan_lacks i (one (place.Operand k (label_number l) segment short Itself broadcast.None)) ≡ (is_memory (operand_in i k) && is_missing l)
+  lacking_first : plan_lacks i (one (place.Operand k l segment short Itself option.None)) ≡ (is_memory (operand_in i k) && is_missing l)
   unfolding plan_lacks
-  lacking_first = simp or-false (rw (number_of_missing l) (and_comm (is_missing l) (is_memory (operand_in i k))))
+  lacking_first = simp or-false (and_comm (is_missing l) (is_memory (operand_in i k)))
 
   -- after an operand by itself
   lacking_second :
       (last : Place) →
       place_lacks i last ≡ false →
-      plan_lacks i (three (plain 0) (place.Operand k (label_number l) segment short Itself broadcast.None) last) ≡ (is_memory (operand_in i k) && is_missing l)
+      plan_lacks i (three (plain 0) (place.Operand k l segment short Itself option.None) last) ≡ (is_memory (operand_in i k) && is_missing l)
   unfolding plan_lacks
-  lacking_second last e = simp or-false (rw (e, number_of_missing l) (simp or-false (and_comm (is_missing l) (is_memory (operand_in i k)))))
+  lacking_second last e = simp or-false (rw e (simp or-false (and_comm (is_missing l) (is_memory (operand_in i k)))))
 
 lacking_fadd : (i : Instruction) → plan_lacks i (fadd i.size i.a i.b) ≡ (is_memory i.b && not (has_label i.size))
 unfolding plan_lacks
@@ -205,45 +200,28 @@ places_lacking arms.Doubles i s = lacking_general_plan i ∙ simp or-false
 places_lacking arms.Branch i s = lacking_else i (is_branch i.a) (one place.Branch) refl ∙ simp or-false
 places_lacking arms.Call i s = lacking_else i (is_branch i.a) (one place.Branch) refl ∙ simp or-false
 places_lacking arms.Xbegin i s = lacking_else i (is_xbegin i.a) (one place.Branch) refl ∙ simp or-false
-places_lacking arms.Feni i s = refl
-places_lacking arms.Fdisi i s = refl
-places_lacking arms.Fsetpm i s = refl
-places_lacking arms.Hreset i s = refl
 places_lacking arms.Lsl i s = lacking_else i (is_register i.a && is_register i.b) (two (plain 0) (named (lsl_source i.a i.b))) refl ∙ simp or-false
-places_lacking arms.Prefetch i s = refl
-places_lacking arms.Sgdt i s = refl
 places_lacking arms.Lss i s =
     lacking_second (lss_label i.size) Hidden false 1 i place.Nothing refl
     ∙ rw (missing_for_lss i.size, memory_there i.b _ refl (neither_right (is_absent i.a) _ (sym (at_lss i) ∙ s)))
 places_lacking arms.Nop i s = lacking_when i (is_absent i.b) (general_plan i) none (general_refused false false i) (lacking_general_plan i) refl ∙ simp or-false
-places_lacking arms.ScatterDword i s = refl
-places_lacking arms.ScatterQword i s = refl
-places_lacking arms.Monitor i s = refl
-places_lacking arms.Mwait i s = refl
-places_lacking arms.Invlpgb i s = refl
-places_lacking arms.Rdpru i s = refl
 places_lacking arms.Scas i s = lacking_first (size_label i.size) Own false 0 i ∙ simp or-false (rw (missing_by_size i.size, memory_there i.a _ (first_memory i).1.0 s))
 places_lacking arms.Lods i s = lacking_first (size_label i.size) Hidden false 1 i ∙ simp or-false (rw (missing_by_size i.size, memory_there i.b _ (at_lods i) s))
-places_lacking arms.Psmash i s = refl
-places_lacking arms.Pvalidate i s = refl
 places_lacking arms.Incssp i s = lacking_general_plan i ∙ simp or-false
 places_lacking arms.Wrss i s = lacking_general_plan i ∙ simp or-false
 places_lacking arms.Pblendvb i s = lacking_second (size_label i.size) Own false 1 i (named xmm0) refl ∙ simp or-false (rw (missing_by_size i.size))
-places_lacking arms.Lea i s = refl
-places_lacking arms.Pushf i s = refl
 places_lacking arms.Aam i s = lacking_else i (eqb i.imm 10) none refl ∙ simp or-false
 places_lacking arms.Fcom i s = lacking_first (size_label i.size) Own false 1 i ∙ simp or-false (rw (missing_by_size i.size))
 places_lacking arms.Fadd i s = lacking_fadd i ∙ simp or-false
 places_lacking arms.Fbld i s = lacking_first (tbyte_label i.size) Own true 1 i ∙ simp or-false (rw (missing_with_tbyte i.size))
 places_lacking arms.Fbstp i s = lacking_first (tbyte_label i.size) Own false 0 i ∙ simp or-false (rw (missing_with_tbyte i.size))
+places_lacking _ i s = refl
 
 -- ---- The law, of the plan: a broadcast and a tail take no label away
 
-lacks_with_broadcast : (i : Instruction) (b : Broadcast) (p : Place) → place_lacks i (broadcast_as b p) ≡ place_lacks i p
+lacks_with_broadcast : (i : Instruction) (b : Option ℕ) (p : Place) → place_lacks i (broadcast_as b p) ≡ place_lacks i p
 lacks_with_broadcast i b place.Nothing = refl
-lacks_with_broadcast i b (place.Register reg) = refl
-lacks_with_broadcast i b place.Branch = refl
-lacks_with_broadcast i b (place.Operand k label segment short mask _) = refl
+lacks_with_broadcast i b _ = refl
 
 module _ (arm : Arm) (i : Instruction) where
   lacks_decorated : (plan : Plan) → plan_lacks i (decorated arm i plan) ≡ plan_lacks i plan

@@ -3,12 +3,10 @@ pub mod Results
 pub mod Mmword
 pub mod ByArm
 pub mod GeneralPath
-pub mod Vectors
 pub mod Labelled
 pub mod MissingSizes
 pub mod Lacking
 pub mod Ordered
-pub mod Cases
 pub mod Over16
 pub mod Tails
 pub mod PlainPlans

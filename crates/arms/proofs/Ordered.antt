@@ -13,8 +13,9 @@ use Rattle.operands.specs.Parts.{operand_in, starting_at, shown_of, is_st0}
 use Rattle.operands.specs.RegisterBytes.{eax, xmm0}
 use Rattle.operands.specs.declared.Instruction.{Instruction}
 use Rattle.operands.specs.declared.Operand.{Operand}
-use Rattle.operands.specs.declared.Operand.TheVariants.{Absent, Register, Imm, Absolute16, Absolute32, Memory}
+use Rattle.operands.specs.declared.Operand.TheVariants.{Absent}
 use Rattle.operands.specs.declared.Label.{Label}
+use Rattle.operands.specs.declared.Label.TheVariants as label
 use Rattle.operands.specs.declared.Label.TheVariants.{Dword, Qword, Fword}
 use Rattle.operands.specs.declared.Shown.TheVariants.{St}
 use Rattle.branches.specs.declared.Mode.{Mode}
@@ -22,12 +23,11 @@ use Rattle.places.specs.declared.Segment.{Segment}
 use Rattle.places.specs.declared.Segment.TheVariants.{Hidden, Shown as Own, UnlessDs}
 use Rattle.places.specs.declared.Mask.{Mask}
 use Rattle.places.specs.declared.Mask.TheVariants.{Itself, Second}
-use Rattle.operands.specs.declared.Broadcast.{Broadcast}
-use Rattle.operands.specs.declared.Broadcast.TheVariants as broadcast
+use Rattle.std.specs.Prelude.{Option}
+use Rattle.std.specs.Prelude as option
 use Rattle.places.specs.declared.Place.{Place}
 use Rattle.places.specs.declared.Place.TheVariants as place
 use Rattle.places.specs.declared.Plan.{Plan}
-use Rattle.places.specs.Labels.{label_number}
 use Rattle.places.specs.Places.{operand_shown, item_at, items_at}
 use Rattle.places.specs.Order.{counted, is_nothing, from_the_left}
 use Rattle.places.proofs.Starts.{left_unstarted}
@@ -47,11 +47,7 @@ use Rattle.arms.proofs.ByArm.{first_there, both-there, at_lsl, at_lss, at_invlpg
 
 pub nothing_is_absent : (o : Operand) → is_nothing (shown_of o) ≡ is_absent o
 nothing_is_absent Absent = refl
-nothing_is_absent (Register place reg) = refl
-nothing_is_absent (Imm kind value) = refl
-nothing_is_absent (Absolute16 segment address) = refl
-nothing_is_absent (Absolute32 segment address) = refl
-nothing_is_absent (Memory segment address mask) = refl
+nothing_is_absent _ = refl
 
 there : (o : Operand) → is_absent o ≡ false → is_nothing (shown_of o) ≡ false
 there o e = nothing_is_absent o ∙ e
@@ -62,20 +58,12 @@ there_short false o e = there o e
 
 register_there : (o : Operand) → not (is_register o) ≡ false → is_absent o ≡ false
 register_there Absent e = e
-register_there (Register place reg) e = refl
-register_there (Imm kind value) e = refl
-register_there (Absolute16 segment address) e = refl
-register_there (Absolute32 segment address) e = refl
-register_there (Memory segment address mask) e = refl
+register_there _ e = refl
 
 -- memory as operand 0 is there
 scattered-there : (a b c : Operand) → scatter_refused a b c ≡ false → is_absent a ≡ false
 scattered-there Absent b c e = e
-scattered-there (Register place reg) b c e = refl
-scattered-there (Imm kind value) b c e = refl
-scattered-there (Absolute16 segment address) b c e = refl
-scattered-there (Absolute32 segment address) b c e = refl
-scattered-there (Memory segment address mask) b c e = refl
+scattered-there _ b c e = refl
 
 module _ (mode : Mode) (arm : Arm) (i : Instruction) where
   -- what a plan shows stands from the left
@@ -86,7 +74,7 @@ module _ (mode : Mode) (arm : Arm) (i : Instruction) where
   abbrev Shows : Place → Type 0
   Shows p = is_nothing (item_at mode arm i p).shown ≡ false
 
-  operand-shows : (k label : ℕ) (segment : Segment) (short : Bool) (mask : Mask) (b : Broadcast) → is_absent (operand_in i k) ≡ false → Shows (place.Operand k label segment short mask b)
+  operand-shows : (k : ℕ) (label : Label) (segment : Segment) (short : Bool) (mask : Mask) (b : Option ℕ) → is_absent (operand_in i k) ≡ false → Shows (place.Operand k label segment short mask b)
   unfolding item_at operand_shown
   operand-shows k label segment short mask b e = there_short (short && is_st0 (operand_in i k)) (operand_in i k) e
 
@@ -111,8 +99,8 @@ module _ (mode : Mode) (arm : Arm) (i : Instruction) where
       ordered_either (is_memory i.b) (one (labelled (size_label i.size) Own 1)) (cond (is_register_r i.a) (two (st 0) (plain 1)) (two (plain 0) (st 1)))
       (ordered_one (labelled (size_label i.size) Own 1))
       (ordered_either (is_register_r i.a) (two (st 0) (plain 1)) (two (plain 0) (st 1))
-      (ordered_two (st 0) (plain 1) (operand-shows 0 0 Hidden true Itself broadcast.None e))
-      (ordered_two (plain 0) (st 1) (operand-shows 0 0 Hidden false Itself broadcast.None e)))
+      (ordered_two (st 0) (plain 1) (operand-shows 0 label.None Hidden true Itself option.None e))
+      (ordered_two (plain 0) (st 1) (operand-shows 0 label.None Hidden false Itself option.None e)))
 
   -- every operand stands where the record has it
   module _ (e : counted i ≡ true) where
@@ -150,50 +138,40 @@ places_from_the_left mode arms.Doubles i e s = ordered_general_plan mode arms.Do
 places_from_the_left mode arms.Branch i e s = ordered_else mode arms.Branch i e (is_branch i.a) (one place.Branch) (ordered_one mode arms.Branch i place.Branch)
 places_from_the_left mode arms.Call i e s = ordered_else mode arms.Call i e (is_branch i.a) (one place.Branch) (ordered_one mode arms.Call i place.Branch)
 places_from_the_left mode arms.Xbegin i e s = ordered_else mode arms.Xbegin i e (is_xbegin i.a) (one place.Branch) (ordered_one mode arms.Xbegin i place.Branch)
-places_from_the_left mode arms.Feni i e s = refl
-places_from_the_left mode arms.Fdisi i e s = refl
-places_from_the_left mode arms.Fsetpm i e s = refl
-places_from_the_left mode arms.Hreset i e s = ordered_two mode arms.Hreset i (plain 0) (named eax) (operand-shows mode arms.Hreset i 0 0 Hidden false Itself broadcast.None (sym (first_there i).0 ∙ s))
+places_from_the_left mode arms.Hreset i e s = ordered_two mode arms.Hreset i (plain 0) (named eax) (operand-shows mode arms.Hreset i 0 label.None Hidden false Itself option.None (sym (first_there i).0 ∙ s))
 places_from_the_left mode arms.Lsl i e s =
     let source = named (lsl_source i.a i.b) in
     let a-there = register_there i.a (neither_left _ _ (sym (at_lsl i) ∙ s)) in
-    ordered_else mode arms.Lsl i e (is_register i.a && is_register i.b) (two (plain 0) source) (ordered_two mode arms.Lsl i (plain 0) source (operand-shows mode arms.Lsl i 0 0 Hidden false Itself broadcast.None a-there))
+    ordered_else mode arms.Lsl i e (is_register i.a && is_register i.b) (two (plain 0) source) (ordered_two mode arms.Lsl i (plain 0) source (operand-shows mode arms.Lsl i 0 label.None Hidden false Itself option.None a-there))
 places_from_the_left mode arms.Prefetch i e s = ordered_one mode arms.Prefetch i (plain 0)
 places_from_the_left mode arms.Sgdt i e s = ordered_one mode arms.Sgdt i (labelled Fword Hidden 0)
 places_from_the_left mode arms.Lss i e s =
-    ordered_two mode arms.Lss i (plain 0) (labelled (lss_label i.size) Hidden 1) (operand-shows mode arms.Lss i 0 0 Hidden false Itself broadcast.None (neither_left (is_absent i.a) _ (sym (at_lss i) ∙ s)))
+    ordered_two mode arms.Lss i (plain 0) (labelled (lss_label i.size) Hidden 1) (operand-shows mode arms.Lss i 0 label.None Hidden false Itself option.None (neither_left (is_absent i.a) _ (sym (at_lss i) ∙ s)))
 places_from_the_left mode arms.Nop i e s = ordered_either mode arms.Nop i (is_absent i.b) (general_plan i) none (ordered_general_plan mode arms.Nop i e) refl
-places_from_the_left mode arms.ScatterDword i e s = ordered_two mode arms.ScatterDword i (scattered Dword) (plain 2) (operand-shows mode arms.ScatterDword i 0 3 Hidden false Second broadcast.None (scattered-there i.a i.b i.c (sym (scattering i).0 ∙ s)))
-places_from_the_left mode arms.ScatterQword i e s = ordered_two mode arms.ScatterQword i (scattered Qword) (plain 2) (operand-shows mode arms.ScatterQword i 0 4 Hidden false Second broadcast.None (scattered-there i.a i.b i.c (sym (scattering i).1.0 ∙ s)))
-places_from_the_left mode arms.Monitor i e s = refl
-places_from_the_left mode arms.Mwait i e s = refl
-places_from_the_left mode arms.Invlpgb i e s = ordered_two mode arms.Invlpgb i (plain 0) (plain 2) (operand-shows mode arms.Invlpgb i 0 0 Hidden false Itself broadcast.None (neither_left (is_absent i.a) _ (sym (at_invlpgb i) ∙ s)))
-places_from_the_left mode arms.Rdpru i e s = refl
+places_from_the_left mode arms.ScatterDword i e s = ordered_two mode arms.ScatterDword i (scattered Dword) (plain 2) (operand-shows mode arms.ScatterDword i 0 Dword Hidden false Second option.None (scattered-there i.a i.b i.c (sym (scattering i).0 ∙ s)))
+places_from_the_left mode arms.ScatterQword i e s = ordered_two mode arms.ScatterQword i (scattered Qword) (plain 2) (operand-shows mode arms.ScatterQword i 0 Qword Hidden false Second option.None (scattered-there i.a i.b i.c (sym (scattering i).1.0 ∙ s)))
+places_from_the_left mode arms.Invlpgb i e s = ordered_two mode arms.Invlpgb i (plain 0) (plain 2) (operand-shows mode arms.Invlpgb i 0 label.None Hidden false Itself option.None (neither_left (is_absent i.a) _ (sym (at_invlpgb i) ∙ s)))
 places_from_the_left mode arms.Scas i e s = ordered_one mode arms.Scas i (labelled (size_label i.size) Own 0)
 places_from_the_left mode arms.Lods i e s = ordered_one mode arms.Lods i (labelled (size_label i.size) Hidden 1)
-places_from_the_left mode arms.Psmash i e s = refl
-places_from_the_left mode arms.Pvalidate i e s = refl
 places_from_the_left mode arms.Incssp i e s = ordered_general_plan mode arms.Incssp i e
 places_from_the_left mode arms.Wrss i e s = ordered_general_plan mode arms.Wrss i e
 places_from_the_left mode arms.Pblendvb i e s =
     let there = sym (both-there i).0 ∙ s in
-    ordered_three mode arms.Pblendvb i (plain 0) (labelled (size_label i.size) Own 1) (named xmm0) (operand-shows mode arms.Pblendvb i 0 0 Hidden false Itself broadcast.None (neither_left (is_absent i.a) (is_absent i.b) there))
-    (operand-shows mode arms.Pblendvb i 1 _ Own false Itself broadcast.None (neither_right (is_absent i.a) (is_absent i.b) there))
-places_from_the_left mode arms.Lea i e s = ordered_two mode arms.Lea i (plain 0) (plain 1) (operand-shows mode arms.Lea i 0 0 Hidden false Itself broadcast.None (neither_left (is_absent i.a) _ (sym (both-there i).1.0 ∙ s)))
-places_from_the_left mode arms.Pushf i e s = refl
+    ordered_three mode arms.Pblendvb i (plain 0) (labelled (size_label i.size) Own 1) (named xmm0) (operand-shows mode arms.Pblendvb i 0 label.None Hidden false Itself option.None (neither_left (is_absent i.a) (is_absent i.b) there))
+    (operand-shows mode arms.Pblendvb i 1 _ Own false Itself option.None (neither_right (is_absent i.a) (is_absent i.b) there))
+places_from_the_left mode arms.Lea i e s = ordered_two mode arms.Lea i (plain 0) (plain 1) (operand-shows mode arms.Lea i 0 label.None Hidden false Itself option.None (neither_left (is_absent i.a) _ (sym (both-there i).1.0 ∙ s)))
 places_from_the_left mode arms.Aam i e s = ordered_else mode arms.Aam i e (eqb i.imm 10) none refl
 places_from_the_left mode arms.Fcom i e s = ordered_one mode arms.Fcom i (labelled (size_label i.size) Own 1)
 places_from_the_left mode arms.Fadd i e s = ordered_fadd mode arms.Fadd i (neither_left _ _ (neither_left _ _ (sym (at_fadd i) ∙ s)))
-places_from_the_left mode arms.Fbld i e s = ordered_one mode arms.Fbld i (place.Operand 1 (label_number (tbyte_label i.size)) Own true Itself broadcast.None)
+places_from_the_left mode arms.Fbld i e s = ordered_one mode arms.Fbld i (place.Operand 1 (tbyte_label i.size) Own true Itself option.None)
 places_from_the_left mode arms.Fbstp i e s = ordered_one mode arms.Fbstp i (labelled (tbyte_label i.size) Own 0)
+places_from_the_left mode _ i e s = refl
 
 -- a broadcast changes nothing of what a place shows before it
-shown_with-broadcast : (mode : Mode) (arm : Arm) (i : Instruction) (b : Broadcast) (p : Place) → (item_at mode arm i (broadcast_as b p)).shown ≡ (item_at mode arm i p).shown
+shown_with-broadcast : (mode : Mode) (arm : Arm) (i : Instruction) (b : Option ℕ) (p : Place) → (item_at mode arm i (broadcast_as b p)).shown ≡ (item_at mode arm i p).shown
 unfolding item_at operand_shown
 shown_with-broadcast mode arm i b place.Nothing = refl
-shown_with-broadcast mode arm i b (place.Register reg) = refl
-shown_with-broadcast mode arm i b place.Branch = refl
-shown_with-broadcast mode arm i b (place.Operand k label segment short mask _) = refl
+shown_with-broadcast mode arm i b _ = refl
 
 module _ (mode : Mode) (arm : Arm) (i : Instruction) where
   left-decorated : (plan : Plan) → from_the_left (items_at mode arm i (decorated arm i plan)) ≡ from_the_left (items_at mode arm i plan)

@@ -10,7 +10,7 @@ use Rattle.operands.specs.Kinds.{is_absent, is_register, is_register_r, is_memor
 use Rattle.operands.specs.declared.Instruction.{Instruction}
 use Rattle.operands.specs.declared.Operand.{Operand}
 use Rattle.operands.specs.declared.Label.{Label}
-use Rattle.operands.specs.declared.Broadcast.TheVariants as broadcast
+use Rattle.std.specs.Prelude.{Some, None}
 use Rattle.operands.specs.declared.Tail.TheVariants as tail
 use Rattle.places.specs.declared.Segment.{Segment}
 use Rattle.places.specs.declared.Segment.TheVariants.{Shown as Own, UnlessDs}
@@ -47,10 +47,6 @@ module _ (i : Instruction) where
   unfolding general
   over_general_plan = over_spread _ _ Own
 
-  over_none : plan_over16 i none ≡ false
-  unfolding plan_over16
-  over_none = refl
-
   over_else : (p : Bool) (x : Plan) → plan_over16 i x ≡ false → plan_over16 i (cond p x (general_plan i)) ≡ false
   over_else p x e = over_either i p x (general_plan i) e over_general_plan
 
@@ -75,40 +71,18 @@ places-not_over arms.Doubles i = over_general_plan i
 places-not_over arms.Branch i = over_else i (is_branch i.a) (one place.Branch) refl
 places-not_over arms.Call i = over_else i (is_branch i.a) (one place.Branch) refl
 places-not_over arms.Xbegin i = over_else i (is_xbegin i.a) (one place.Branch) refl
-places-not_over arms.Feni i = refl
-places-not_over arms.Fdisi i = refl
-places-not_over arms.Fsetpm i = refl
-places-not_over arms.Hreset i = refl
 places-not_over arms.Lsl i = over_else i (is_register i.a && is_register i.b) (two (plain 0) (named (lsl_source i.a i.b))) refl
-places-not_over arms.Prefetch i = refl
-places-not_over arms.Sgdt i = refl
-places-not_over arms.Lss i = refl
 places-not_over arms.Nop i = over_either i (is_absent i.b) (general_plan i) none (over_general_plan i) refl
-places-not_over arms.ScatterDword i = refl
-places-not_over arms.ScatterQword i = refl
-places-not_over arms.Monitor i = refl
-places-not_over arms.Mwait i = refl
-places-not_over arms.Invlpgb i = refl
-places-not_over arms.Rdpru i = refl
-places-not_over arms.Scas i = refl
-places-not_over arms.Lods i = refl
-places-not_over arms.Psmash i = refl
-places-not_over arms.Pvalidate i = refl
 places-not_over arms.Incssp i = over_general_plan i
 places-not_over arms.Wrss i = over_general_plan i
-places-not_over arms.Pblendvb i = refl
-places-not_over arms.Lea i = refl
-places-not_over arms.Pushf i = refl
 places-not_over arms.Aam i = over_else i (eqb i.imm 10) none refl
-places-not_over arms.Fcom i = refl
 places-not_over arms.Fadd i = over_fadd i
-places-not_over arms.Fbld i = refl
-places-not_over arms.Fbstp i = refl
+places-not_over _ i = refl
 
 -- ---- The general path
 
 -- one operand that a broadcast may stand after
-over_after : (g over memory : Bool) (n : ℕ) → ltb 16 n ≡ over → (is_over16 (cond g (broadcast.To n) broadcast.None) && memory) ≡ (g && (memory && over))
+over_after : (g over memory : Bool) (n : ℕ) → ltb 16 n ≡ over → (is_over16 (cond g (Some n) None) && memory) ≡ (g && (memory && over))
 over_after true over memory n e = rw e (and_comm over memory)
 over_after false over memory n e = refl
 

@@ -13,7 +13,7 @@ use Rattle.text.proofs.Choosing.{cond_by}
 use Rattle.text.proofs.Tables.{both_left, both_right, so, every_at}
 use Rattle.operands.specs.Kinds.{is_absent, is_register, is_register_r, is_memory}
 use Rattle.operands.specs.Parts.{operand_in, mask_of}
-use Rattle.operands.specs.declared.Broadcast.TheVariants as broadcast
+use Rattle.std.specs.Prelude.{Some, None}
 use Rattle.operands.specs.declared.Instruction.{Instruction}
 use Rattle.operands.specs.declared.Item.{Item}
 use Rattle.operands.specs.declared.Tail.TheVariants as tail
@@ -56,8 +56,8 @@ abbrev is_plain : Place → Bool
 is_plain place.Nothing = true
 is_plain (place.Register reg) = true
 is_plain place.Branch = true
-is_plain (place.Operand k label segment short Itself broadcast.None) = true
-is_plain (place.Operand k label segment short Itself (broadcast.To n)) = false
+is_plain (place.Operand k label segment short Itself None) = true
+is_plain (place.Operand k label segment short Itself (Some n)) = false
 is_plain (place.Operand k label segment short Second b) = false
 
 abbrev plan_plain : Plan → Bool
@@ -65,53 +65,21 @@ plan_plain plan = is_plain plan.a && (is_plain plan.b && (is_plain plan.c && is_
 
 places-plain : (arm : Arm) (i : Instruction) → is_scatter_arm arm ≡ false → T (plan_plain (places_of arm i))
 unfolding places_of general spread
-places-plain arms.General i e = tt
-places-plain arms.Qword i e = tt
-places-plain arms.Mmword i e = tt
-places-plain arms.Jmpf i e = tt
-places-plain arms.Callf i e = tt
-places-plain arms.Lds i e = tt
-places-plain arms.Movs i e = tt
-places-plain arms.Cmps i e = tt
-places-plain arms.Singles i e = tt
-places-plain arms.Doubles i e = tt
 places-plain arms.Branch i e = cond_by (λ (p : Plan). T (plan_plain p)) (is_branch i.a) (λ f. tt) (λ f. tt)
 places-plain arms.Call i e = cond_by (λ (p : Plan). T (plan_plain p)) (is_branch i.a) (λ f. tt) (λ f. tt)
 places-plain arms.Xbegin i e = cond_by (λ (p : Plan). T (plan_plain p)) (is_xbegin i.a) (λ f. tt) (λ f. tt)
-places-plain arms.Feni i e = tt
-places-plain arms.Fdisi i e = tt
-places-plain arms.Fsetpm i e = tt
-places-plain arms.Hreset i e = tt
 places-plain arms.Lsl i e = cond_by (λ (p : Plan). T (plan_plain p)) (is_register i.a && is_register i.b) (λ f. tt) (λ f. tt)
-places-plain arms.Prefetch i e = tt
-places-plain arms.Sgdt i e = tt
-places-plain arms.Lss i e = tt
 places-plain arms.Nop i e = cond_by (λ (p : Plan). T (plan_plain p)) (is_absent i.b) (λ f. tt) (λ f. tt)
 places-plain arms.ScatterDword i e = absurd (true≢false e)
 places-plain arms.ScatterQword i e = absurd (true≢false e)
-places-plain arms.Monitor i e = tt
-places-plain arms.Mwait i e = tt
-places-plain arms.Invlpgb i e = tt
-places-plain arms.Rdpru i e = tt
-places-plain arms.Scas i e = tt
-places-plain arms.Lods i e = tt
-places-plain arms.Psmash i e = tt
-places-plain arms.Pvalidate i e = tt
-places-plain arms.Incssp i e = tt
-places-plain arms.Wrss i e = tt
-places-plain arms.Pblendvb i e = tt
-places-plain arms.Lea i e = tt
-places-plain arms.Pushf i e = tt
 places-plain arms.Aam i e = cond_by (λ (p : Plan). T (plan_plain p)) (eqb i.imm 10) (λ f. tt) (λ f. tt)
-places-plain arms.Fcom i e = tt
 places-plain arms.Fadd i e = cond_by (λ (p : Plan). T (plan_plain p)) (is_memory i.b) (λ f. tt) (λ f. cond_by (λ (p : Plan). T (plan_plain p)) (is_register_r i.a) (λ g. tt) (λ g. tt))
-places-plain arms.Fbld i e = tt
-places-plain arms.Fbstp i e = tt
+places-plain _ i e = tt
 
 -- an item shows no mask and no broadcast
 pub record Plain (x : Item) : Type 0 where
   pub mask : x.mask ≡ 0
-  pub broadcast : x.broadcast ≡ broadcast.None
+  pub broadcast : x.broadcast ≡ None
 
 module _ (mode : Mode) (arm : Arm) (i : Instruction) (masks : (k : ℕ) → mask_of (operand_in i k) ≡ 0) where
   item-plain : (p : Place) → T (is_plain p) → Plain (item_at mode arm i p)
@@ -119,9 +87,9 @@ module _ (mode : Mode) (arm : Arm) (i : Instruction) (masks : (k : ℕ) → mask
   item-plain place.Nothing t = record { mask = refl; broadcast = refl }
   item-plain (place.Register reg) t = record { mask = refl; broadcast = refl }
   item-plain place.Branch t = record { mask = refl; broadcast = refl }
-  item-plain (place.Operand k label segment short Itself broadcast.None) t =
-      record { mask = masks k; broadcast = cond_by (λ b. b ≡ broadcast.None) (is_memory (operand_in i k)) (λ e. refl) (λ e. refl) }
-  item-plain (place.Operand k label segment short Itself (broadcast.To n)) t = absurd t
+  item-plain (place.Operand k label segment short Itself None) t =
+      record { mask = masks k; broadcast = cond_by (λ b. b ≡ None) (is_memory (operand_in i k)) (λ e. refl) (λ e. refl) }
+  item-plain (place.Operand k label segment short Itself (Some n)) t = absurd t
   item-plain (place.Operand k label segment short Second b) t = absurd t
 
   module _ (scatters : is_scatter_arm arm ≡ false) (once : is_broadcast i ≡ false) (untailed : i.tail ≡ 0) where

@@ -19,9 +19,9 @@ use Rattle.arms.specs.Labels.{size_label}
 use Rattle.arms.specs.Code.{general_by}
 use Rattle.arms.specs.Plans.{plain, labelled, st, named, none, one, two, spread, general, general_plan, places_of, decorated, plan_of}
 use Rattle.arms.specs.Size.{general_path}
+use Rattle.arms.specs.Decorations.{tail_of}
 use Rattle.arms.proofs.GeneralPath.{general_plan_lem}
 use Rattle.arms.proofs.Ordered.{nothing_is_absent}
-use Rattle.arms.proofs.Cases.{tail_of_none}
 
 -- places have no tail of their own
 no_tail_either : (p : Bool) (x y : Plan) → x.tail ≡ tail.None → y.tail ≡ tail.None → (cond p x y).tail ≡ tail.None
@@ -30,49 +30,20 @@ no_tail_either false x y e k = k
 
 pub places_end : (arm : Arm) (i : Instruction) → (places_of arm i).tail ≡ tail.None
 unfolding places_of general spread
-places_end arms.General i = refl
-places_end arms.Qword i = refl
-places_end arms.Mmword i = refl
-places_end arms.Jmpf i = refl
-places_end arms.Callf i = refl
-places_end arms.Lds i = refl
-places_end arms.Movs i = refl
-places_end arms.Cmps i = refl
-places_end arms.Singles i = refl
-places_end arms.Doubles i = refl
 places_end arms.Branch i = no_tail_either (is_branch i.a) (one place.Branch) (general_plan i) refl refl
 places_end arms.Call i = no_tail_either (is_branch i.a) (one place.Branch) (general_plan i) refl refl
 places_end arms.Xbegin i = no_tail_either (is_xbegin i.a) (one place.Branch) (general_plan i) refl refl
-places_end arms.Feni i = refl
-places_end arms.Fdisi i = refl
-places_end arms.Fsetpm i = refl
-places_end arms.Hreset i = refl
 places_end arms.Lsl i = no_tail_either (is_register i.a && is_register i.b) (two (plain 0) (named (lsl_source i.a i.b))) (general_plan i) refl refl
-places_end arms.Prefetch i = refl
-places_end arms.Sgdt i = refl
-places_end arms.Lss i = refl
 places_end arms.Nop i = no_tail_either (is_absent i.b) (general_plan i) none refl refl
-places_end arms.ScatterDword i = refl
-places_end arms.ScatterQword i = refl
-places_end arms.Monitor i = refl
-places_end arms.Mwait i = refl
-places_end arms.Invlpgb i = refl
-places_end arms.Rdpru i = refl
-places_end arms.Scas i = refl
-places_end arms.Lods i = refl
-places_end arms.Psmash i = refl
-places_end arms.Pvalidate i = refl
-places_end arms.Incssp i = refl
-places_end arms.Wrss i = refl
-places_end arms.Pblendvb i = refl
-places_end arms.Lea i = refl
-places_end arms.Pushf i = refl
 places_end arms.Aam i = no_tail_either (eqb i.imm 10) none (general_plan i) refl refl
-places_end arms.Fcom i = refl
 places_end arms.Fadd i = no_tail_either (is_memory i.b) (one (labelled (size_label i.size) Own 1)) (cond (is_register_r i.a) (two (st 0) (plain 1)) (two (plain 0) (st 1))) refl
     (no_tail_either (is_register_r i.a) (two (st 0) (plain 1)) (two (plain 0) (st 1)) refl refl)
-places_end arms.Fbld i = refl
-places_end arms.Fbstp i = refl
+places_end _ i = refl
+
+-- without operand 0 there is no tail
+tail_of_none : (i : Instruction) → is_absent i.a ≡ true → tail_of i ≡ tail.None
+unfolding tail_of
+tail_of_none i e = rw e
 
 module _ (mode : Mode) (arm : Arm) (i : Instruction) where
   -- the general path shows operand 0 first

@@ -1,13 +1,11 @@
 -- Document 02, W-204: `{1toN}`, the tail, and answer 7.
 -- Assumes nothing.
-use Rattle.std.specs.Prelude.{Bool, cond, ◌&&◌, ◌||◌, ℕ, ◌/◌, eqb, ltb}
+use Rattle.std.specs.Prelude.{Bool, cond, ◌&&◌, ◌||◌, ℕ, ◌/◌, eqb, ltb, Option, Some, None}
 use Rattle.operands.specs.Flags.{bit}
 use Rattle.operands.specs.Kinds.{is_absent, is_memory}
 use Rattle.operands.specs.Parts.{width_of}
 use Rattle.operands.specs.declared.Operand.{Operand}
 use Rattle.operands.specs.declared.Instruction.{Instruction}
-use Rattle.operands.specs.declared.Broadcast.{Broadcast}
-use Rattle.operands.specs.declared.Broadcast.TheVariants as broadcast
 use Rattle.operands.specs.declared.Tail.{Tail}
 use Rattle.operands.specs.declared.Tail.TheVariants as tail
 use Rattle.names.specs.declared.Arm.{Arm}
@@ -36,8 +34,8 @@ broadcast_count arm i before =
     (quotient (width_of before) i.size))
 
 -- the broadcast of the operand after this one
-abbrev pub broadcast_after : Arm → Instruction → (before : Operand) → Broadcast
-broadcast_after arm i before = cond (is_broadcast i) (broadcast.To (broadcast_count arm i before)) broadcast.None
+abbrev pub broadcast_after : Arm → Instruction → (before : Operand) → Option ℕ
+broadcast_after arm i before = cond (is_broadcast i) (Some (broadcast_count arm i before)) None
 
 -- ---- "a tail for the general path, 0 none, 1 `{sae}`, 2 the Intel manual's rounding word for those bits"
 

@@ -1,12 +1,11 @@
 -- What each arm of document 000's `contextualize` shows of a record, arm by arm in its order: the plan of its line. Which records
 -- are refused is said elsewhere: for those the plan here is shown to no one.
 -- Assumes nothing.
-use Rattle.std.specs.Prelude.{Bool, true, false, cond, ◌&&◌, ℕ, eqb}
+use Rattle.std.specs.Prelude.{Bool, true, false, cond, ◌&&◌, ℕ, eqb, Option}
+use Rattle.std.specs.Prelude as option
 use Rattle.operands.specs.declared.Operand.{Operand}
 use Rattle.operands.specs.declared.Label.{Label}
 use Rattle.operands.specs.declared.Label.TheVariants.{None, Dword, Qword, Fword}
-use Rattle.operands.specs.declared.Broadcast.{Broadcast}
-use Rattle.operands.specs.declared.Broadcast.TheVariants as broadcast
 use Rattle.operands.specs.declared.Tail.TheVariants as tail
 use Rattle.operands.specs.declared.Instruction.{Instruction}
 use Rattle.operands.specs.Kinds.{is_absent, is_register, is_register_r, is_memory}
@@ -17,7 +16,6 @@ use Rattle.places.specs.declared.Mask.TheVariants.{Itself, Second}
 use Rattle.places.specs.declared.Place.{Place}
 use Rattle.places.specs.declared.Place.TheVariants as place
 use Rattle.places.specs.declared.Plan.{Plan}
-use Rattle.places.specs.Labels.{label_number}
 use Rattle.names.specs.declared.Arm.{Arm}
 use Rattle.names.specs.declared.Arm.TheVariants.{
   General,
@@ -72,19 +70,19 @@ use Rattle.arms.specs.Decorations.{broadcast_after, tail_of}
 
 -- an operand by itself, memory with neither label nor segment
 abbrev pub plain : ℕ → Place
-plain k = place.Operand k (label_number None) Hidden false Itself broadcast.None
+plain k = place.Operand k None Hidden false Itself option.None
 
 -- an operand with this label where it is memory, and its segment as the arm shows it
 abbrev pub labelled : Label → Segment → ℕ → Place
-labelled label segment k = place.Operand k (label_number label) segment false Itself broadcast.None
+labelled label segment k = place.Operand k label segment false Itself option.None
 
 -- an operand by itself, but `st` for st(0)
 abbrev pub st : ℕ → Place
-st k = place.Operand k (label_number None) Hidden true Itself broadcast.None
+st k = place.Operand k None Hidden true Itself option.None
 
 -- operand 0 of VPSCATTER, with this label and operand 1 as its mask: `dword ptr [eax + zmm1 * 4]{k1}`
 abbrev pub scattered : Label → Place
-scattered label = place.Operand 0 (label_number label) Hidden false Second broadcast.None
+scattered label = place.Operand 0 label Hidden false Second option.None
 
 -- a register that the arm shows by itself
 abbrev pub named : ℕ → Place
@@ -196,13 +194,13 @@ places_of Pushf i = none
 places_of Aam i = cond (eqb i.imm 10) none (general_plan i)
 places_of Fcom i = one (labelled (size_label i.size) Own 1)
 places_of Fadd i = fadd i.size i.a i.b
-places_of Fbld i = one (place.Operand 1 (label_number (tbyte_label i.size)) Own true Itself broadcast.None)
+places_of Fbld i = one (place.Operand 1 (tbyte_label i.size) Own true Itself option.None)
 places_of Fbstp i = one (labelled (tbyte_label i.size) Own 0)
 
 -- ---- What document 02 adds to the general path
 
 -- a place with this broadcast
-abbrev pub broadcast_as : Broadcast → Place → Place
+abbrev pub broadcast_as : Option ℕ → Place → Place
 broadcast_as b place.Nothing = place.Nothing
 broadcast_as b (place.Register reg) = place.Register reg
 broadcast_as b place.Branch = place.Branch

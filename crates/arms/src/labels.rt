@@ -1,55 +1,55 @@
-// The label that an arm calls for, by mem_size, as the number that a plan holds.
+// The label that an arm calls for, by mem_size.
 ghost use Rattle.std.specs.Prelude.{◌≡◌};
-ghost use Rattle.places.specs.Labels.{label_number};
 ghost use Rattle.arms.specs.Labels.{size_label, general_label, lss_label, tbyte_label};
 
-use places::labels::{
-    BYTE, DWORD, FWORD, MISSING, MMWORD, NONE, QWORD, TBYTE, WORD, XMMWORD, YMMWORD, ZMMWORD,
-};
+use operands::Label;
 
 // Document 01's labels by size.
-pub fn size_label(size: u8) -> u8
-    ensures { result ≡ label_number (size_label size) }
+#[tactic(auto, unfolding(crate::specs::Labels::size_label))]
+pub fn size_label(size: u8) -> Label
+    ensures { result ≡ size_label size }
 {
     match size {
-        1 => BYTE,
-        2 => WORD,
-        4 => DWORD,
-        8 => QWORD,
-        16 => XMMWORD,
-        32 => YMMWORD,
-        64 => ZMMWORD,
-        _ => MISSING,
+        1 => Label::Byte,
+        2 => Label::Word,
+        4 => Label::Dword,
+        8 => Label::Qword,
+        16 => Label::Xmmword,
+        32 => Label::Ymmword,
+        64 => Label::Zmmword,
+        _ => Label::Missing,
     }
 }
 
-pub fn general_label(mmword: bool, fword: bool, size: u8) -> u8
-    ensures { result ≡ label_number (general_label mmword fword size) }
+#[tactic(auto, unfolding(crate::specs::Labels::general_label))]
+pub fn general_label(mmword: bool, fword: bool, size: u8) -> Label
+    ensures { result ≡ general_label mmword fword size }
 {
     match size {
-        63 => NONE,
-        48 => NONE,
-        8 => { if mmword { MMWORD } else { QWORD } }
-        6 => { if fword { FWORD } else { MISSING } }
+        63 | 48 => Label::None,
+        8 if mmword => Label::Mmword,
+        6 if fword => Label::Fword,
         _ => size_label(size),
     }
 }
 
-pub fn lss_label(size: u8) -> u8
-    ensures { result ≡ label_number (lss_label size) }
+#[tactic(auto, unfolding(crate::specs::Labels::lss_label))]
+pub fn lss_label(size: u8) -> Label
+    ensures { result ≡ lss_label size }
 {
     match size {
-        4 => DWORD,
-        6 => FWORD,
-        _ => MISSING,
+        4 => Label::Dword,
+        6 => Label::Fword,
+        _ => Label::Missing,
     }
 }
 
-pub fn tbyte_label(size: u8) -> u8
-    ensures { result ≡ label_number (tbyte_label size) }
+#[tactic(auto, unfolding(crate::specs::Labels::tbyte_label))]
+pub fn tbyte_label(size: u8) -> Label
+    ensures { result ≡ tbyte_label size }
 {
     match size {
-        10 => TBYTE,
+        10 => Label::Tbyte,
         _ => size_label(size),
     }
 }

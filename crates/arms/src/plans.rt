@@ -1,22 +1,20 @@
 // The plan of each arm: the general path stands in the code once, then the other arms in document 000's order.
 ghost use Rattle.std.specs.Prelude.{◌≡◌, false, ◌&&◌, eqb};
 ghost use Rattle.bodies.specs.Body.{size_of};
-ghost use Rattle.bodies.specs.Code.{fields_by, Whole};
+ghost use Rattle.bodies.specs.Code.{fields_by};
 ghost use Rattle.bodies.specs.Refusals.{field_refused};
 ghost use Rattle.bodies.specs.Decoding.{instruction_of};
 ghost use Rattle.arms.specs.Size.{general_path};
 ghost use Rattle.arms.specs.Code.{mmword_for};
-ghost use Rattle.arms.specs.Plans.{plain as plain_place, st as st_place, four as four_places, three as three_places, two as two_places, one as one_place, none as no_place, places_of, plan_of};
+ghost use Rattle.arms.specs.Plans.{plain as plain_place, st as st_place, labelled as labelled_place, scattered as scattered_place, spread as spread_places, three as three_places, two as two_places, one as one_place, none as no_place, places_of, plan_of};
 ghost use Rattle.arms.specs.Code.{general_by};
 
 use crate::decorations::decorated;
 use crate::labels::{general_label, lss_label, size_label, tbyte_label};
 use crate::tests::{has_vector, is_general, lsl_source};
-use bodies::kinds::{is_memory_at, is_register_r_at};
-use bodies::{Front, fields};
+use bodies::Body;
 use names::Arm;
-use operands::{Broadcast, Tail};
-use places::labels::{DWORD, FWORD, NONE, QWORD};
+use operands::{Label, Tail};
 use places::{Mask, Place, Plan, Segment};
 
 // The registers that arms show by themselves.
@@ -29,8 +27,8 @@ const EDX: u8 = 2;
 const XMM0: u8 = 48;
 
 // An operand with this label where it is memory, and its segment as the arm shows it.
-fn labelled(label: u8, segment: Segment, k: u8) -> Place
-    ensures { result ≡ Place.Operand k label segment false Mask.Itself Broadcast.None }
+fn labelled(label: Label, segment: Segment, k: u8) -> Place
+    ensures { result ≡ labelled_place label segment k }
 {
     Place::Operand {
         k,
@@ -38,14 +36,14 @@ fn labelled(label: u8, segment: Segment, k: u8) -> Place
         segment,
         short: false,
         mask: Mask::Itself,
-        broadcast: Broadcast::None,
+        broadcast: None,
     }
 }
 
 fn plain(k: u8) -> Place
     ensures { result ≡ plain_place k }
 {
-    labelled(NONE, Segment::Hidden, k)
+    labelled(Label::None, Segment::Hidden, k)
 }
 
 fn st(k: u8) -> Place
@@ -53,17 +51,17 @@ fn st(k: u8) -> Place
 {
     Place::Operand {
         k,
-        label: NONE,
+        label: Label::None,
         segment: Segment::Hidden,
         short: true,
         mask: Mask::Itself,
-        broadcast: Broadcast::None,
+        broadcast: None,
     }
 }
 
 // Operand 0 of VPSCATTER, with operand 1 as its mask.
-fn scattered(label: u8) -> Place
-    ensures { result ≡ Place.Operand 0 label Segment.Hidden false Mask.Second Broadcast.None }
+fn scattered(label: Label) -> Place
+    ensures { result ≡ scattered_place label }
 {
     Place::Operand {
         k: 0,
@@ -71,7 +69,7 @@ fn scattered(label: u8) -> Place
         segment: Segment::Hidden,
         short: false,
         mask: Mask::Second,
-        broadcast: Broadcast::None,
+        broadcast: None,
     }
 }
 
@@ -106,8 +104,9 @@ fn none() -> Plan
 }
 
 // Every operand, the first with one label and those after it with another.
-fn spread(first: u8, later: u8, segment: Segment) -> Plan
-    ensures { result ≡ four_places (Place.Operand 0 first Segment.Shown false Mask.Itself Broadcast.None) (Place.Operand 1 later segment false Mask.Itself Broadcast.None) (Place.Operand 2 later segment false Mask.Itself Broadcast.None) (Place.Operand 3 later segment false Mask.Itself Broadcast.None) }
+#[tactic(auto, unfolding(crate::specs::Plans::spread))]
+fn spread(first: Label, later: Label, segment: Segment) -> Plan
+    ensures { result ≡ spread_places first later segment }
 {
     Plan {
         a: labelled(first, Segment::Shown, 0),
@@ -119,15 +118,14 @@ fn spread(first: u8, later: u8, segment: Segment) -> Plan
 }
 
 // Whether 8 is `mmword`. The registers are looked at for that size alone.
-fn is_mmword(arm: Arm, front: Front, rest: &[u8], size: u8) -> bool
-    requires { Whole (fields_by front rest.now) }
-    ensures { result ≡ (eqb size 8 && mmword_for arm (instruction_of (fields_by front rest.now))) }
+fn is_mmword(arm: Arm, body: &Body, size: u8) -> bool
+    ensures { result ≡ (eqb size 8 && mmword_for arm (instruction_of (fields_by body.now.front body.now.rest.now))) }
 {
     if size == 8 {
         match arm {
             Arm::Qword => false,
             Arm::Mmword => true,
-            _ => has_vector(front, rest),
+            _ => has_vector(body),
         }
     } else {
         false
@@ -135,6 +133,7 @@ fn is_mmword(arm: Arm, front: Front, rest: &[u8], size: u8) -> bool
 }
 
 // The general path. Most arms have one label for all operands.
+#[tactic(auto, unfolding(crate::specs::Code::general_by))]
 fn general(arm: Arm, mmword: bool, size: u8) -> Plan
     ensures { result ≡ general_by arm mmword size }
 {
@@ -160,13 +159,13 @@ fn general(arm: Arm, mmword: bool, size: u8) -> Plan
     }
 }
 
-fn fadd(front: Front, rest: &[u8]) -> Plan
-    requires { Whole (fields_by front rest.now) }
-    ensures { result ≡ places_of Arm.Fadd (instruction_of (fields_by front rest.now)) }
+#[tactic(auto, unfolding(crate::specs::Plans::places_of, bodies::specs::Decoding::instruction_of))]
+fn fadd(body: &Body) -> Plan
+    ensures { result ≡ places_of Arm.Fadd (instruction_of (fields_by body.now.front body.now.rest.now)) }
 {
-    if is_memory_at(front, rest, 1) {
-        one(labelled(size_label(fields::size(front, rest)), Segment::Shown, 1))
-    } else if is_register_r_at(front, rest, 0) {
+    if body.is_memory_at(1) {
+        one(labelled(size_label(body.size()), Segment::Shown, 1))
+    } else if body.is_register_r_at(0) {
         two(st(0), plain(1))
     } else {
         two(plain(0), st(1))
@@ -174,21 +173,21 @@ fn fadd(front: Front, rest: &[u8]) -> Plan
 }
 
 // An arm that does not leave its record to the general path; those that are not named show their name alone.
-fn own(arm: Arm, front: Front, rest: &[u8], size: u8) -> Plan
-    requires whole { Whole (fields_by front rest.now) }
-    requires size_value { size ≡ size_of (fields_by front rest.now) }
-    requires rest_value { general_path arm (instruction_of (fields_by front rest.now)) ≡ false }
-    ensures { result ≡ places_of arm (instruction_of (fields_by front rest.now)) }
+#[tactic(auto, unfolding(crate::specs::Plans::places_of, bodies::specs::Decoding::instruction_of))]
+fn own(arm: Arm, body: &Body, size: u8) -> Plan
+    requires size_value { size ≡ size_of (fields_by body.now.front body.now.rest.now) }
+    requires rest_value { general_path arm (instruction_of (fields_by body.now.front body.now.rest.now)) ≡ false }
+    ensures { result ≡ places_of arm (instruction_of (fields_by body.now.front body.now.rest.now)) }
 {
     match arm {
         Arm::Branch | Arm::Call | Arm::Xbegin => one(Place::Branch),
         Arm::Hreset => two(plain(0), Place::Register(EAX)),
-        Arm::Lsl => two(plain(0), Place::Register(lsl_source(front, rest))),
+        Arm::Lsl => two(plain(0), Place::Register(lsl_source(body))),
         Arm::Prefetch => one(plain(0)),
-        Arm::Sgdt => one(labelled(FWORD, Segment::Hidden, 0)),
+        Arm::Sgdt => one(labelled(Label::Fword, Segment::Hidden, 0)),
         Arm::Lss => two(plain(0), labelled(lss_label(size), Segment::Hidden, 1)),
-        Arm::ScatterDword => two(scattered(DWORD), plain(2)),
-        Arm::ScatterQword => two(scattered(QWORD), plain(2)),
+        Arm::ScatterDword => two(scattered(Label::Dword), plain(2)),
+        Arm::ScatterQword => two(scattered(Label::Qword), plain(2)),
         Arm::Monitor | Arm::Pvalidate => three(
             Place::Register(EAX),
             Place::Register(ECX),
@@ -206,14 +205,14 @@ fn own(arm: Arm, front: Front, rest: &[u8], size: u8) -> Plan
         ),
         Arm::Lea => two(plain(0), plain(1)),
         Arm::Fcom => one(labelled(size_label(size), Segment::Shown, 1)),
-        Arm::Fadd => fadd(front, rest),
+        Arm::Fadd => fadd(body),
         Arm::Fbld => one(Place::Operand {
             k: 1,
             label: tbyte_label(size),
             segment: Segment::Shown,
             short: true,
             mask: Mask::Itself,
-            broadcast: Broadcast::None,
+            broadcast: None,
         }),
         Arm::Fbstp => one(labelled(tbyte_label(size), Segment::Shown, 0)),
         _ => none(),
@@ -221,20 +220,20 @@ fn own(arm: Arm, front: Front, rest: &[u8], size: u8) -> Plan
 }
 
 // A record that is not extended has no flag bit 6 and no tail, so its plan is that of its places.
-pub fn plan_of(arm: Arm, front: Front, rest: &[u8]) -> Plan
-    requires whole { Whole (fields_by front rest.now) }
-    requires rest_value { field_refused (fields_by front rest.now) ≡ false }
-    ensures { result ≡ plan_of arm (instruction_of (fields_by front rest.now)) }
+#[tactic(auto, unfolding(crate::specs::Plans::plan_of, bodies::specs::Decoding::instruction_of))]
+pub fn plan_of(arm: Arm, body: &Body) -> Plan
+    requires rest_value { field_refused (fields_by body.now.front body.now.rest.now) ≡ false }
+    ensures { result ≡ plan_of arm (instruction_of (fields_by body.now.front body.now.rest.now)) }
 {
-    let size = fields::size(front, rest);
-    if is_general(arm, front, rest) {
-        let plan = general(arm, is_mmword(arm, front, rest, size), size);
-        if fields::is_extended(front, rest) {
-            decorated(arm, front, rest, plan)
+    let size = body.size();
+    if is_general(arm, body) {
+        let plan = general(arm, is_mmword(arm, body, size), size);
+        if body.is_extended() {
+            decorated(arm, body, plan)
         } else {
             plan
         }
     } else {
-        own(arm, front, rest, size)
+        own(arm, body, size)
     }
 }

@@ -148,3 +148,6 @@ module _ (body : List ℕ) (k : ℕ) where
         (λ l m s a. rw (lt-leb kind 2 (omega arith), lt-leb kind 8 l))
         (λ l m s a. rw (lt-leb kind 2 (omega arith), lt-leb kind 8 l))
         (λ l s a. rw (lt-leb kind 2 (omega arith), lt-leb kind 8 l))
+
+-- all of them, for the functions that ask
+pub ruleset by_kind_lemmas = (absent_by_count, operand_none, register_by_kind, register_r_by_kind, register_m_by_kind, memory_by_kind, register_byte_by_kind, immediate_kind_by_kind, immediate_by_kind, plain_memory_by_kind, mask_register_by_kind, width_by_kind)

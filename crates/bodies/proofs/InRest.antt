@@ -23,5 +23,5 @@ eqb_more n m =
           ]
     ]
 
-pub eqb-fields : (n m : ℕ) → eqb (in_fields n) (14 + m) ≡ eqb n (10 + m)
-eqb-fields n m = let e : 14 + m ≡ in_fields (10 + m) = omega arith in rw e (eqb_more n (10 + m))
+pub eqb_fields : (n m : ℕ) → eqb (in_fields n) (14 + m) ≡ eqb n (10 + m)
+eqb_fields n m = let e : 14 + m ≡ in_fields (10 + m) = omega arith in rw e (eqb_more n (10 + m))

@@ -5,7 +5,6 @@ pub mod Lengths
 pub mod InRest
 pub mod Versions
 pub mod Signed
-pub mod Widths
 pub mod Operands
 pub mod Accepted
 pub mod ByKind

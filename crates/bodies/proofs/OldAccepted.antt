@@ -6,15 +6,16 @@ use mathlib.Core.List.{List}
 use Prim.Native.Nat.{ℕ, zero, suc, ◌+◌, ◌*◌, ◌≤◌, ◌<◌}
 use native.Mathlib.Omega.{arith}
 use lib.Dec.{leb, ltb}
-use borrow.Author.Tests.{leb-true, lt-leb, lt-ltb, ltb-false, not-false}
+use borrow.Author.Tests.{leb-true, lt-leb, lt-ltb, ltb-false, not-true, not-false}
 use Rattle.operands.specs.Kinds.{is_masked}
 use Rattle.frames.specs.Numbers.{byte}
 use Rattle.bodies.specs.Body.{opcode_of, count_of, any_masked, is_extended}
-use Rattle.bodies.specs.Code.{body_answer}
+use Rattle.bodies.specs.Code.{Whole, body_answer}
 use Rattle.bodies.specs.Refusals.{length_refused, field_refused}
 use Rattle.bodies.specs.Document01.{old_length_refused, old_operand_kept, old_operand_refused, old_field_refused}
 use Rattle.bodies.proofs.Picks.{both_left, both_right, neither_left, neither_right}
 use Rattle.bodies.proofs.OperandPlaces.{place_unmasked}
+use Rattle.bodies.proofs.Lengths.{whole}
 use Rattle.bodies.proofs.OldKept.{old_kept}
 
 -- an operand that is stored and not refused has a kind up to 16, so no mask
@@ -71,6 +72,13 @@ module _ (body : List ℕ) (fields : old_field_refused body ≡ false) where
     pub old_answer : body_answer body ≡ 0
     old_answer = rw ((old_kept body not_extended).lengths ∙ lengths, (old_kept body not_extended).fields ∙ fields)
 
+-- the two tests together
+pub old_kept_answer : (body : List ℕ) → (not (old_length_refused body) && not (old_field_refused body)) ≡ true → body_answer body ≡ 0
+old_kept_answer body both =
+    let lengths = not (old_length_refused body) in
+    let fields = not (old_field_refused body) in
+    old_answer body (not-true (old_field_refused body) (both_right lengths fields both)) (not-true (old_length_refused body) (both_left lengths fields both))
+
 pub answer_length : (body : List ℕ) → length_refused body ≡ true → body_answer body ≡ 2
 answer_length body e = rw e
 
@@ -86,6 +94,10 @@ answer_kept : (p q : Bool) → ◌≡◌ {A = ℕ} (cond p 2 (cond q 3 0)) 0 →
 answer_kept true q e = absurd (let z : ◌≡◌ {A = ℕ} 2 0 = e in omega arith)
 answer_kept false true e = absurd (let z : ◌≡◌ {A = ℕ} 3 0 = e in omega arith)
 answer_kept false false e = (refl, refl)
+
+-- so a body whose answer is 0 has the right length
+pub accepted_whole : (body : List ℕ) → body_answer body ≡ 0 → Whole body
+accepted_whole body e = whole body (answer_kept (length_refused body) (field_refused body) e).0
 
 pub nothing_refused : (body : List ℕ) → body_answer body ≡ 0 → (length_refused body ≡ false) × (field_refused body ≡ false)
 nothing_refused body e = answer_kept (length_refused body) (field_refused body) e

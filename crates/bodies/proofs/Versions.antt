@@ -3,19 +3,17 @@
 use mathlib.Core.Bool.{true, false}
 use mathlib.Core.Path.{◌≡◌, refl, ◌∙◌}
 use mathlib.Core.List.{List, [], ◌∷◌, ◌++◌}
-use Prim.Native.Nat.{ℕ, zero, suc, ◌+◌, ◌*◌, ◌-◌, ◌≤◌, ◌<◌, min}
+use Prim.Native.Nat.{ℕ, zero, suc, ◌+◌, ◌-◌, ◌≤◌, ◌<◌, min}
 use native.Mathlib.Omega.{arith}
 use lib.Dec.{eqb}
 use lib.ListN.{length, length-append, length-take, length-drop, take, drop}
 use lib.Seq.{get_or-drop}
-use borrow.Author.Tests.{eq-eqb, ne_eqb, eqb-true}
-use Rattle.frames.specs.Frames.{known_version}
 use Rattle.frames.specs.Numbers.{byte}
 use Rattle.bodies.specs.Code.{rest_at, front_of, fields_by, in_fields}
 use Rattle.bodies.specs.WellFormed.{Bytes}
 use Rattle.bodies.specs.Refusals.{length_refused, longest_fields, longest_body}
 use Rattle.bodies.specs.Versions.{fields}
-use Rattle.bodies.proofs.Picks.{picked, either_left}
+use Rattle.bodies.proofs.Picks.{picked}
 use Rattle.bodies.proofs.Lengths.{short_refused, long_refused}
 
 -- version 1's body is its fields, and version 2's has four bytes more
@@ -43,19 +41,6 @@ without-four (a ∷ b ∷ c ∷ []) h = absurd (omega arith)
 without-four (a ∷ b ∷ c ∷ d ∷ xs) h = refl
 
 module _ (version : ℕ) where
-  pub rest_two : version ≡ 2 → rest_at version ≡ 8
-  rest_two e = rw (eq-eqb version 2 e)
-
-  pub rest_one : (version ≡ 2 → ⊥) → rest_at version ≡ 4
-  rest_one n = rw (ne_eqb version 2 n)
-
-  -- of the versions that there are, it is four times the number
-  pub rest_times : known_version version ≡ true → 4 * version ≡ rest_at version
-  rest_times known =
-      picked (λ (n : ℕ). 4 * version ≡ n) (eqb version 2) 8 4
-      (λ e. omega (arith, eqb-true version 2 e))
-      (λ e. omega (arith, eqb-true version 1 (either_left (eqb version 1) (eqb version 2) known e)))
-
   pub rest_least : 4 ≤ rest_at version
   rest_least = picked (λ (n : ℕ). 4 ≤ n) (eqb version 2) 8 4 (λ e. omega arith) (λ e. omega arith)
 

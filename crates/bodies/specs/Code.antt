@@ -1,6 +1,6 @@
 -- What contracts inside the printer speak of, and no promise: a body whose length is right.
 -- Assumes nothing.
-use Rattle.std.specs.Prelude.{cond, ◌≡◌, List, ◌∷◌, ℕ, suc, ◌+◌, ◌*◌, ◌^◌, ◌≤◌, eqb, length}
+use Rattle.std.specs.Prelude.{cond, ◌≡◌, List, ◌∷◌, ℕ, suc, ◌+◌, ◌*◌, ◌^◌, ◌≤◌, ◌<◌, eqb, length}
 use Rattle.operands.specs.declared.Instruction.{Instruction}
 use Rattle.operands.specs.Parts.{starting_at}
 use Rattle.bodies.specs.Decoding.{instruction_of}
@@ -8,7 +8,7 @@ use Rattle.frames.specs.Numbers.{byte}
 use Rattle.bodies.specs.declared.Front.{Front}
 use Rattle.bodies.specs.Versions.{start_of}
 use Rattle.bodies.specs.Refusals.{length_refused, field_refused}
-use Rattle.bodies.specs.Body.{count_of, is_extended, end_of}
+use Rattle.bodies.specs.Body.{count_of, place_of, is_extended, end_of}
 
 -- what a length that is not refused says: the fixed fields are there, and so are the stored operands' bytes, and the two after them
 -- of an extended record, and no more
@@ -49,3 +49,9 @@ opcode_in front = front.high * 2 ^ 8 + front.low
 -- their record
 abbrev pub instruction_by : Front → List ℕ → Instruction
 instruction_by front rest = starting_at front.start (instruction_of (fields_by front rest))
+
+-- operand k is stored at a place of the rest, and its five bytes are there
+pub record StandsAt (body : List ℕ) (k at : ℕ) : Type 0 where
+  pub stored : k < count_of body
+  pub place : in_fields at ≡ place_of body k
+  pub within : in_fields at + 5 ≤ length body

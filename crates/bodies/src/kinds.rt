@@ -1,4 +1,6 @@
 // What is asked of operand k by its kind, without the rest of it.
+#![tactic(auto, using(crate::proofs::ByKind::by_kind_lemmas))]
+
 ghost use Rattle.std.specs.Prelude.{◌≡◌, ◌&&◌, ◌≤◌, eqb, get_or};
 ghost use Rattle.operands.specs.Kinds.{is_absent, is_register, is_register_r, is_register_m, is_memory};
 ghost use Rattle.operands.specs.RegisterBytes.{bank};
@@ -6,148 +8,104 @@ ghost use Rattle.operands.specs.Parts.{register_of, immediate_kind, immediate_of
 ghost use Rattle.bodies.specs.Code.{fields_by, Whole};
 ghost use Rattle.bodies.specs.Decoding.{operand_at};
 
-use crate::{Front, fields, numbers, stored};
+use crate::{Body, numbers, stored};
 use operands::kinds::{ABSOLUTE_16, I8, I16, REGISTER_M, REGISTER_R, U8, U16, U32};
 
-pub fn is_absent_at(front: Front, rest: &[u8], k: u8) -> bool
-    requires { Whole (fields_by front rest.now) }
-    ensures { result ≡ is_absent (operand_at (fields_by front rest.now) k) }
-{
-    fields::count(front, rest) <= k
-}
-
-pub fn is_memory_at(front: Front, rest: &[u8], k: u8) -> bool
-    requires { Whole (fields_by front rest.now) }
-    ensures { result ≡ is_memory (operand_at (fields_by front rest.now) k) }
-{
-    if k < fields::count(front, rest) {
-        let at = stored::place_at(front, rest, k);
-        ABSOLUTE_16 <= rest[at]
-    } else {
-        false
+impl Body<'_> {
+    pub fn is_absent_at(&self, k: u8) -> bool
+        ensures { result ≡ is_absent (operand_at (fields_by self.now.front self.now.rest.now) k) }
+    {
+        self.count() <= k
     }
-}
 
-pub fn is_register_at(front: Front, rest: &[u8], k: u8) -> bool
-    requires { Whole (fields_by front rest.now) }
-    ensures { result ≡ is_register (operand_at (fields_by front rest.now) k) }
-{
-    if k < fields::count(front, rest) {
-        let at = stored::place_at(front, rest, k);
-        rest[at] <= REGISTER_M
-    } else {
-        false
+    pub fn is_memory_at(&self, k: u8) -> bool
+        ensures { result ≡ is_memory (operand_at (fields_by self.now.front self.now.rest.now) k) }
+    {
+        matches!(self.place_of(k), Some(at) if ABSOLUTE_16 <= self.rest[at])
     }
-}
 
-// A register in the R place, kind 1.
-pub fn is_register_r_at(front: Front, rest: &[u8], k: u8) -> bool
-    requires { Whole (fields_by front rest.now) }
-    ensures { result ≡ is_register_r (operand_at (fields_by front rest.now) k) }
-{
-    if k < fields::count(front, rest) {
-        let at = stored::place_at(front, rest, k);
-        rest[at] == REGISTER_R
-    } else {
-        false
+    pub fn is_register_at(&self, k: u8) -> bool
+        ensures { result ≡ is_register (operand_at (fields_by self.now.front self.now.rest.now) k) }
+    {
+        matches!(self.place_of(k), Some(at) if self.rest[at] <= REGISTER_M)
     }
-}
 
-// A register in the M place, kind 2.
-pub fn is_register_m_at(front: Front, rest: &[u8], k: u8) -> bool
-    requires { Whole (fields_by front rest.now) }
-    ensures { result ≡ is_register_m (operand_at (fields_by front rest.now) k) }
-{
-    if k < fields::count(front, rest) {
-        let at = stored::place_at(front, rest, k);
-        rest[at] == REGISTER_M
-    } else {
-        false
+    // A register in the R place, kind 1.
+    pub fn is_register_r_at(&self, k: u8) -> bool
+        ensures { result ≡ is_register_r (operand_at (fields_by self.now.front self.now.rest.now) k) }
+    {
+        matches!(self.place_of(k), Some(at) if self.rest[at] == REGISTER_R)
     }
-}
 
-// The register byte of kinds 1 and 2, and 0 of any other operand.
-pub fn register_at(front: Front, rest: &[u8], k: u8) -> u8
-    requires { Whole (fields_by front rest.now) }
-    ensures { result ≡ register_of (operand_at (fields_by front rest.now) k) }
-{
-    if k < fields::count(front, rest) {
-        let at = stored::place_at(front, rest, k);
-        if rest[at] <= REGISTER_M {
-            rest[at + 2]
-        } else {
-            0
+    // A register in the M place, kind 2.
+    pub fn is_register_m_at(&self, k: u8) -> bool
+        ensures { result ≡ is_register_m (operand_at (fields_by self.now.front self.now.rest.now) k) }
+    {
+        matches!(self.place_of(k), Some(at) if self.rest[at] == REGISTER_M)
+    }
+
+    // The register byte of kinds 1 and 2, and 0 of any other operand.
+    pub fn register_at(&self, k: u8) -> u8
+        ensures { result ≡ register_of (operand_at (fields_by self.now.front self.now.rest.now) k) }
+    {
+        match self.place_of(k) {
+            Some(at) if self.rest[at] <= REGISTER_M => self.rest[at + 2],
+            _ => 0,
         }
-    } else {
-        0
     }
-}
 
-// The kind of an immediate, and 0 of any other operand.
-pub fn immediate_kind_at(front: Front, rest: &[u8], k: u8) -> u8
-    requires { Whole (fields_by front rest.now) }
-    ensures { result ≡ immediate_kind (operand_at (fields_by front rest.now) k) }
-{
-    if k < fields::count(front, rest) {
-        let at = stored::place_at(front, rest, k);
-        let kind = rest[at];
-        if kind <= REGISTER_M {
-            0
-        } else if kind <= U32 {
-            kind
-        } else {
-            0
+    // The kind of an immediate, and 0 of any other operand.
+    pub fn immediate_kind_at(&self, k: u8) -> u8
+        ensures { result ≡ immediate_kind (operand_at (fields_by self.now.front self.now.rest.now) k) }
+    {
+        let Some(at) = self.place_of(k) else {
+            return 0;
+        };
+        match self.rest[at] {
+            kind @ I8..=U32 => kind,
+            _ => 0,
         }
-    } else {
-        0
     }
-}
 
-// The value of an immediate, and 0 of any other operand.
-pub fn immediate_at(front: Front, rest: &[u8], k: u8) -> u32
-    requires { Whole (fields_by front rest.now) }
-    ensures { result ≡ immediate_of (operand_at (fields_by front rest.now) k) }
-{
-    if k < fields::count(front, rest) {
-        let at = stored::place_at(front, rest, k);
-        let kind = rest[at];
-        if kind <= REGISTER_M {
-            0
-        } else if kind <= U32 {
-            numbers::immediate_of(kind, fields::imm(front, rest))
-        } else {
-            0
+    // The value of an immediate, and 0 of any other operand.
+    pub fn immediate_at(&self, k: u8) -> u32
+        ensures { result ≡ immediate_of (operand_at (fields_by self.now.front self.now.rest.now) k) }
+    {
+        let Some(at) = self.place_of(k) else {
+            return 0;
+        };
+        match self.rest[at] {
+            kind @ I8..=U32 => numbers::immediate_of(kind, self.imm()),
+            _ => 0,
         }
-    } else {
-        0
     }
-}
 
-// Memory without a mask.
-pub fn is_plain_memory_at(front: Front, rest: &[u8], k: u8) -> bool
-    requires { Whole (fields_by front rest.now) }
-    ensures { result ≡ (is_memory (operand_at (fields_by front rest.now) k) && eqb (mask_of (operand_at (fields_by front rest.now) k)) 0) }
-{
-    if k < fields::count(front, rest) {
-        let at = stored::place_at(front, rest, k);
-        let kind = rest[at];
-        let mask = stored::mask_at(front, rest, k, at);
-        (ABSOLUTE_16 <= kind) & (mask == 0)
-    } else {
-        false
+    // Memory without a mask.
+    pub fn is_plain_memory_at(&self, k: u8) -> bool
+        ensures { result ≡ (is_memory (operand_at (fields_by self.now.front self.now.rest.now) k) && eqb (mask_of (operand_at (fields_by self.now.front self.now.rest.now) k)) 0) }
+    {
+        matches!(self.place_of(k), Some(at) if (ABSOLUTE_16 <= self.rest[at]) & (self.mask_at(k, at) == 0))
     }
-}
 
-// A register of bank 9.
-pub fn is_mask_register_at(front: Front, rest: &[u8], k: u8) -> bool
-    requires { Whole (fields_by front rest.now) }
-    ensures { result ≡ is_mask_register (operand_at (fields_by front rest.now) k) }
-{
-    if k < fields::count(front, rest) {
-        let at = stored::place_at(front, rest, k);
-        (rest[at] <= REGISTER_M) & (rest[at + 2] / 8 == 9)
-    } else {
-        false
+    // A register of bank 9.
+    pub fn is_mask_register_at(&self, k: u8) -> bool
+        ensures { result ≡ is_mask_register (operand_at (fields_by self.now.front self.now.rest.now) k) }
+    {
+        matches!(self.place_of(k), Some(at) if (self.rest[at] <= REGISTER_M) & (self.rest[at + 2] / 8 == 9))
+    }
+
+    // The width in bytes of a register or an immediate, and 0 of any other operand.
+    pub fn width_at(&self, k: u8) -> u8
+        ensures { result ≡ width_of (operand_at (fields_by self.now.front self.now.rest.now) k) }
+    {
+        let Some(at) = self.place_of(k) else {
+            return 0;
+        };
+        match self.rest[at] {
+            ..=REGISTER_M => bank_width(self.rest[at + 2]),
+            kind @ I8..=U32 => immediate_width(kind),
+            _ => 0,
+        }
     }
 }
 
@@ -155,28 +113,16 @@ pub fn is_mask_register_at(front: Front, rest: &[u8], k: u8) -> bool
 fn bank_width(reg: u8) -> u8
     ensures { result ≡ get_or bank_widths (bank reg) 0 }
 {
-    if reg < 8 {
-        4
-    } else if reg < 16 {
-        2
-    } else if reg < 24 {
-        1
-    } else if reg < 32 {
-        2
-    } else if reg < 40 {
-        10
-    } else if reg < 48 {
-        8
-    } else if reg < 56 {
-        16
-    } else if reg < 64 {
-        32
-    } else if reg < 72 {
-        64
-    } else if reg < 80 {
-        8
-    } else {
-        0
+    match reg / 8 {
+        0 => 4,
+        1 | 3 => 2,
+        2 => 1,
+        4 => 10,
+        5 | 9 => 8,
+        6 => 16,
+        7 => 32,
+        8 => 64,
+        _ => 0,
     }
 }
 
@@ -186,31 +132,9 @@ fn immediate_width(kind: u8) -> u8
     requires kind_bound { kind ≤ 8 }
     ensures { result ≡ get_or immediate_widths kind 0 }
 {
-    if (kind == I8) | (kind == U8) {
-        1
-    } else if (kind == I16) | (kind == U16) {
-        2
-    } else {
-        4
-    }
-}
-
-// The width in bytes of a register or an immediate, and 0 of any other operand.
-pub fn width_at(front: Front, rest: &[u8], k: u8) -> u8
-    requires { Whole (fields_by front rest.now) }
-    ensures { result ≡ width_of (operand_at (fields_by front rest.now) k) }
-{
-    if k < fields::count(front, rest) {
-        let at = stored::place_at(front, rest, k);
-        let kind = rest[at];
-        if kind <= REGISTER_M {
-            bank_width(rest[at + 2])
-        } else if kind <= U32 {
-            immediate_width(kind)
-        } else {
-            0
-        }
-    } else {
-        0
+    match kind {
+        I8 | U8 => 1,
+        I16 | U16 => 2,
+        _ => 4,
     }
 }

@@ -15,6 +15,7 @@ pub fn rest_at(version: u32) -> usize
     4 * (version as usize)
 }
 
+#[tactic(auto, unfolding(crate::specs::Versions::start_of))]
 fn start_of(version: u32, body: &[u8]) -> u32
     requires { rest_at version ≤ length body.now }
     ensures { result ≡ start_of version body.now }

@@ -2,6 +2,8 @@
 // field stands. The fields are handed about in two parts, the front and the rest, as version 2 has its start address between them.
 #![tactic(auto)]
 
+ghost use Rattle.bodies.specs.Code.{fields_by, Whole};
+
 pub mod fields;
 pub mod kinds;
 pub mod layout;
@@ -18,4 +20,12 @@ pub struct Front {
     pub flags: u8,
     pub length: u8,
     pub start: u32,
+}
+
+// A body whose length is right, by its front and its rest.
+#[derive(Clone, Copy)]
+pub struct Body<'a> {
+    pub front: Front,
+    pub rest: &'a [u8],
+    ghost whole: { Whole (fields_by front rest.now) },
 }

@@ -1,6 +1,11 @@
--- The branch sums in the form that the code computes: unsigned sums, and sizes counted back from 2 ^ w.
+-- The branch sums in the form that the code computes: casts of unsigned numbers, and a sign and a size.
 -- Assumes nothing.
-use Rattle.std.proofs.Common.{◌≡◌, ℕ, suc, ◌+◌, ◌-◌, ◌%◌, ◌^◌, ◌<◌, ◌≤◌, true, false, pos, negsuc, ◌+ℤ◌, ap, ◌∙◌, arith, le-ltb, lt-ltb}
+use Rattle.std.proofs.Common.{◌≡◌, ℕ, suc, ◌+◌, ◌-◌, ◌%◌, ◌^◌, ◌<◌, ◌≤◌, true, false, ℤ, pos, negsuc, ◌+ℤ◌, nat_abs, refl, sym, ap, ◌∙◌, arith, mod-lt, lit<, le-ltb, lt-ltb}
+use native.Mathlib.Decide.{dec_lt}
+use lib.Signed.{lt_z}
+use mir.Syntax.{Width, w8, w32, w64}
+use mir.Val.{SFits, to_z, of_z, bits, hbits}
+use Rattle.std.proofs.lemmas.Int.{ints}
 use Rattle.branches.specs.Sums.{signed}
 use Rattle.branches.specs.Code.{parts, parted}
 
@@ -11,17 +16,11 @@ module _ (w n s : ℕ) (is : s ≡ n % 2 ^ w) where
   unfolding signed
   signed_low low = rw (← is, lt-ltb _ _ low)
 
-  pub parted_low : s < 2 ^ (w - 1) → parted (signed w n) ≡ parts false s
-  parted_low low = ap parted (signed_low low)
-
   -- from half on they stand for as much below 0 as is missing to 2 ^ w
   module _ (high : 2 ^ (w - 1) ≤ s) (below : s < 2 ^ w) where
     pub signed_high : signed w n ≡ negsuc (2 ^ w - suc s)
     unfolding signed
     signed_high = rw (← is, le-ltb _ _ high, lt-ltb _ _ below)
-
-    pub parted_high : (size : ℕ) → size ≡ 2 ^ w - s → parted (signed w n) ≡ parts true size
-    parted_high size missing = ap parted signed_high ∙ ap (parts true) (omega arith)
 
 -- The whole sum of mode 1, which is stated in ℤ.
 module _ (value length : ℕ) where
@@ -39,5 +38,32 @@ module _ (value length : ℕ) where
     pub whole_over : back ≤ length → signed 32 value +ℤ pos length ≡ pos (length - back)
     whole_over more = rw (distance_back, le-ltb length (suc (2 ^ 32 - suc value)) (omega arith)) (ap pos (omega arith))
 
-    pub parted-back : length < back → parted (signed 32 value +ℤ pos length) ≡ parts true (back - length)
-    parted-back less = rw (whole_back less) (ap (parts true) (omega arith))
+-- The lowest bits of n, at the width of a number, are s: cast to signed they are those bits read as signed.
+module _ (n s : ℕ) where
+  signed-by_width : (w : Width) → hbits w ≡ bits w - 1 → 0 < 2 ^ bits w → s ≡ n % 2 ^ bits w → to_z w s ≡ signed (bits w) n
+  signed-by_width w half some is =
+      let bound : s < 2 ^ bits w = rw is (mod-lt n some) in
+      elim (dec_lt s (2 ^ (bits w - 1))) [
+        | yes h ↦ rw (half, lt-ltb _ _ h) (sym (signed_low (bits w) n s is h))
+        | no h ↦ rw (half, le-ltb s (2 ^ (bits w - 1)) (omega arith)) (sym (signed_high (bits w) n s is (omega arith) bound))
+      ]
+
+  pub signed_8 : s ≡ n % 2 ^ 8 → to_z w8 s ≡ signed 8 n
+  signed_8 = signed-by_width w8 refl (lit< tt)
+
+  pub signed_32 : s ≡ n % 2 ^ 32 → to_z w32 s ≡ signed 32 n
+  signed_32 = signed-by_width w32 refl (lit< tt)
+
+-- a distance plus a length, at 64 bits
+pub summed_wide :
+    (distance : ℤ) (length : ℕ) → SFits w32 distance → length < 2 ^ 8 →
+    to_z w64 (of_z w64 (to_z w64 (of_z w64 (to_z w32 (of_z w32 distance))) +ℤ to_z w64 length)) ≡ distance +ℤ pos length
+summed_wide distance length fits below = omega (arith, ints)
+
+-- a sum by its sign and its size, of a number that is equal to it
+pub parted_by : (z sum : ℤ) (size : ℕ) → size ≡ nat_abs z → z ≡ sum → parts (lt_z z (pos 0)) size ≡ parted sum
+parted_by z sum size sized same = by z sized ∙ ap parted same
+  where
+    by : (z : ℤ) → size ≡ nat_abs z → parts (lt_z z (pos 0)) size ≡ parted z
+    by (pos n) e = rw (le-ltb n 0 (omega arith)) (ap (parts false) e)
+    by (negsuc n) e = ap (parts true) e

@@ -2,9 +2,9 @@
 // document 02's mode 2 the same word and the target.
 #![tactic(auto)]
 
-ghost use Rattle.std.specs.Prelude.{◌≡◌, ◌+◌, true, false, ℤ, pos, ◌+ℤ◌, unsigned_abs};
+ghost use Rattle.std.specs.Prelude.{◌≡◌, ◌+◌, ℤ, pos, ◌+ℤ◌, unsigned_abs};
 ghost use Rattle.branches.specs.Sums.{signed, below0, branch_sum, straight_word, arm_word, branch_word, target_of, shown_sum, branch_shown};
-ghost use Rattle.branches.specs.Code.{parts, parted};
+ghost use Rattle.branches.specs.Code.{parted};
 
 use names::Arm;
 use operands::kinds::{I8, I32};
@@ -27,26 +27,23 @@ pub struct Sum {
 }
 
 // A branch operand: the arm that shows it, its kind, its distance as 32 bits, the instruction's length and its start address.
+#[tactic(auto, unfolding(crate::specs::Sums::branch_shown))]
 pub fn branch_shown(mode: Mode, arm: Arm, kind: u8, value: u32, length: u8, start: u32) -> Shown
     ensures { result ≡ branch_shown mode arm kind value length start }
 {
     match mode {
-        Mode::Crate => sum_shown(mode, arm, kind, value, length),
-        Mode::Straight => sum_shown(mode, arm, kind, value, length),
-        Mode::Target => {
-            let word = arm_word(arm, kind);
-            let target = target_of(start, length, value);
-            Shown::Target { word, target }
-        }
+        Mode::Crate | Mode::Straight => sum_shown(mode, arm, kind, value, length),
+        Mode::Target => Shown::Target {
+            word: arm_word(arm, kind),
+            target: target_of(start, length, value),
+        },
     }
 }
 
 fn sum_shown(mode: Mode, arm: Arm, kind: u8, value: u32, length: u8) -> Shown
     ensures { result ≡ shown_sum mode arm kind (branch_sum mode kind value length) }
 {
-    let sum = branch_sum(mode, kind, value, length);
-    let minus = sum.minus;
-    let size = sum.size;
+    let Sum { minus, size } = branch_sum(mode, kind, value, length);
     let word = branch_word(mode, arm, kind, minus, size);
     Shown::Branch { word, minus, size }
 }
@@ -55,18 +52,17 @@ fn sum_shown(mode: Mode, arm: Arm, kind: u8, value: u32, length: u8) -> Shown
 fn target_of(start: u32, length: u8, value: u32) -> u32
     ensures { result ≡ target_of start length value }
 {
-    let next = std::num::wrapping_add_u32(start, length as u32);
-    std::num::wrapping_add_u32(next, value)
+    start.wrapping_add(length as u32).wrapping_add(value)
 }
 
+#[tactic(auto, unfolding(crate::specs::Sums::branch_sum))]
 fn branch_sum(mode: Mode, kind: u8, value: u32, length: u8) -> Sum
     ensures { result ≡ parted (branch_sum mode kind value length) }
 {
     if kind == I8 {
         match mode {
             Mode::Crate => short_sum(value, length),
-            Mode::Straight => whole_sum(value, length),
-            Mode::Target => whole_sum(value, length),
+            Mode::Straight | Mode::Target => whole_sum(value, length),
         }
     } else {
         long_sum(value, length)
@@ -79,14 +75,13 @@ fn branch_word(mode: Mode, arm: Arm, kind: u8, minus: bool, size: u32) -> Branch
 {
     match mode {
         Mode::Crate => {
-            if (kind == I32) & !minus & (128 <= size) & (size <= 255) {
+            if kind == I32 && !minus && matches!(size, 128..=255) {
                 BranchWord::Near
             } else {
                 BranchWord::None
             }
         }
-        Mode::Straight => arm_word(arm, kind),
-        Mode::Target => arm_word(arm, kind),
+        Mode::Straight | Mode::Target => arm_word(arm, kind),
     }
 }
 
@@ -115,51 +110,31 @@ fn short_sum(value: u32, length: u8) -> Sum
     ensures { result ≡ parted (signed 8 (value + length)) }
 {
     let distance = (value % 256) as u8;
-    let sum = std::num::wrapping_add_u8(distance, length);
-    if sum < 128 {
-        forward(sum as u32)
-    } else {
-        backward(256 - (sum as u32))
+    let sum = distance.wrapping_add(length).cast_signed();
+    Sum {
+        minus: sum < 0,
+        size: sum.unsigned_abs() as u32,
     }
 }
 
-// The 32-bit sum, wrapped in both modes. The least sum's size, 2^31, is made without a signed number.
+// The 32-bit sum, wrapped in both modes. The least sum's size is 2^31.
 fn long_sum(value: u32, length: u8) -> Sum
     ensures { result ≡ parted (signed 32 (value + length)) }
 {
-    let sum = std::num::wrapping_add_u32(value, length as u32);
-    if sum < 0x8000_0000 {
-        forward(sum)
-    } else {
-        backward(0xffff_ffff - sum + 1)
+    let sum = value.wrapping_add(length as u32).cast_signed();
+    Sum {
+        minus: sum < 0,
+        size: sum.unsigned_abs(),
     }
 }
 
-// The whole sum of mode 1, for kind 3: a distance from 2^31 on counts back from 2^32.
+// The whole sum of mode 1, for kind 3.
 fn whole_sum(value: u32, length: u8) -> Sum
     ensures { result ≡ parted (signed 32 value +ℤ pos length) }
 {
-    let ahead = length as u32;
-    if value < 0x8000_0000 {
-        forward(value + ahead)
-    } else {
-        let back = 0xffff_ffff - value + 1;
-        if ahead < back {
-            backward(back - ahead)
-        } else {
-            forward(ahead - back)
-        }
+    let sum = value.cast_signed() as i64 + length as i64;
+    Sum {
+        minus: sum < 0,
+        size: sum.unsigned_abs() as u32,
     }
-}
-
-fn forward(size: u32) -> Sum
-    ensures { result ≡ parts false size }
-{
-    Sum { minus: false, size }
-}
-
-fn backward(size: u32) -> Sum
-    ensures { result ≡ parts true size }
-{
-    Sum { minus: true, size }
 }

@@ -24,7 +24,7 @@ use Rattle.compared.specs.Places.{Found}
 use Rattle.compared.specs.Places.Found.{found, none}
 use Rattle.compared.specs.Events.{Kind, Naming, kind_of, naming, events_at}
 use Rattle.compared.specs.Events.Naming.{named}
-use Rattle.compared.specs.Events.Kind.{differ, same_line, only_first, only_second}
+use Rattle.compared.specs.Events.Kind.{only_first, only_second}
 use Rattle.compared.specs.Text.{capped, kind_text, event_text, events_text, longest_event}
 use Rattle.compared.specs.Code.{head_text, differing_text, only_text, LineAside, Notes}
 use Rattle.compared.proofs.SideTexts.{capped_same, number_short}
@@ -43,14 +43,8 @@ module _ (asked : Asked) (body : List ℕ) {xs : List ℕ} (long : longest_line 
         text = put_front (omega (arith, line-room.fits)) put;
       }
 
--- both lines, or the one that both have
+-- how long both lines are, or the one that both have
 module _ (first second : List ℕ) where
-  pub kind_same : same first second ≡ true → kind_text (kind_of first second) ≡ kind_text (same_line first)
-  kind_same e = rw e
-
-  pub kind_differ : same first second ≡ false → kind_text (kind_of first second) ≡ kind_text (differ first second)
-  kind_differ e = rw e
-
   kind_most : length first ≤ longest_line + 1 → length second ≤ longest_line + 1 → length (kind_text (kind_of first second)) ≤ 671
   unfolding kind_text
   kind_most h l =
@@ -163,7 +157,11 @@ module _ (sides : AskedSides) (number : ℕ) where
     pub notes_second : {so_far at r n : ℕ} {xs ys : List ℕ} (b : List ℕ) → Put xs at (only_text sides.second number second_words b) r ys → n ≡ capped (so_far + 1) → Notes sides number so_far none (found b) xs at (record { out = r; named = n }) ys
     notes_second b put count = record { put = put_as (sym (second_text b)) put; count = count }
 
-  -- nothing was put of two that are the same
+  -- nothing was put where no record stands, nor of two that are the same
+  pub notes_none : {so_far at : ℕ} {xs : List ℕ} → so_far < 2 ^ 64 → Notes sides number so_far none none xs at (record { out = at; named = so_far }) xs
+  unfolding events_text
+  notes_none fits = record { put = put_none; count = omega (arith, fits) }
+
   pub notes_same : {so_far at : ℕ} {xs : List ℕ} (a b : List ℕ) → same a b ≡ true → so_far < 2 ^ 64 → Notes sides number so_far (found a) (found b) xs at (record { out = at; named = so_far }) xs
   unfolding events_text
   notes_same a b e fits =

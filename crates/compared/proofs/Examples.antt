@@ -14,7 +14,6 @@ use Rattle.branches.specs.Sums.{signed, branch_sum, branch_shown}
 use Rattle.names.specs.Opcodes.{arms, arm_of, opcodes, mnemonics, mnemonic}
 use Rattle.names.specs.Registers.{registers, register_name, segments, segment_name}
 use Rattle.names.specs.Labels.{labels, label_word}
-use Rattle.places.specs.Labels.{label_at}
 use Rattle.places.specs.Places.{operand_shown, item_at, items_at}
 use Rattle.arms.specs.Labels.{size_label, general_label}
 use Rattle.arms.specs.Decorations.{tail_of, broadcast_refused}
@@ -75,7 +74,7 @@ record Lines : Type 0 where
   nop_1 : record_line straight (nop 1) ≡ bytes "nop\n"
 
 lines : Lines
-unfolding record_line refusals asked_refused fields start_of record_text line_at place_of any_masked is_extended mask_kept broadcast_refused tail_of decorated places_of mask_text broadcast_text tail_word length_refused field_refused operand_refused segment_kept first_kept second_kept scale_kept shape_refused size_refused arm_of arms opcodes instruction_of operand_at operand_of immediate disp_in address_of plan_of spread general general_label size_label label_at operand_shown item_at items_at signed branch_sum branch_shown head_of digit digits places_from places figure numeral mnemonics mnemonic registers register_name segments segment_name labels label_word label_text segment_text branch_text shown_text item_text reps_text prefixes_text name_text head_text parted_text items_text line_text
+unfolding record_line refusals asked_refused fields start_of record_text line_at place_of any_masked is_extended mask_kept broadcast_refused tail_of decorated places_of mask_text broadcast_text tail_word length_refused field_refused operand_refused segment_kept first_kept second_kept scale_kept shape_refused size_refused arm_of arms opcodes instruction_of operand_at operand_of immediate disp_in address_of plan_of spread general general_label size_label operand_shown item_at items_at signed branch_sum branch_shown head_of digit digits places_from places figure numeral mnemonics mnemonic registers register_name segments segment_name labels label_word label_text segment_text branch_text shown_text item_text reps_text prefixes_text name_text head_text parted_text items_text line_text
 lines = record { pushed = refl; jump_126 = refl; jump_125 = refl; nop_0 = refl; nop_1 = refl }
 
 -- a report that says nothing of the first side

@@ -18,20 +18,20 @@ use Rattle.bodies.specs.WellFormed.{Bytes}
 use Rattle.records.specs.declared.Asked.{Asked}
 use Rattle.streams.proofs.Streaming.{all_whole}
 use Rattle.compared.specs.declared.Turn.{Turn}
-use Rattle.compared.specs.declared.Turn.TheVariants.{First, Second, Ends, Both, OnlyFirst, OnlySecond}
+use Rattle.compared.specs.declared.Turn.TheVariants.{First, Second, Ends, Records as ToRecords}
 use Rattle.compared.specs.declared.Noted.{Noted}
 use Rattle.compared.specs.declared.Stage.{Stage}
 use Rattle.compared.specs.declared.Stage.TheVariants.{Versions, Records, Done}
 use Rattle.compared.specs.declared.Passed.{Passed}
-use Rattle.compared.specs.Places.{Found, start_of}
+use Rattle.compared.specs.Places.{start_of}
 use Rattle.compared.specs.Events.{naming, events_at}
 use Rattle.compared.specs.Report.{in_versions, not_same}
 use Rattle.compared.specs.Text.{capped, events_text, end_text, longest_event}
 use Rattle.cursors.specs.Longest.{longest_frame}
 use Rattle.compared.specs.Pass.{Passes}
-use Rattle.compared.specs.Code.{wanting, turn_of, Notes, Steps}
-use Rattle.compared.proofs.Stepping.{Placed, placed_body, placed_end, more_there, steps_first, steps_second, steps_done, steps_note, wanting_few, steps_unknown, steps_known}
-use Rattle.compared.proofs.Settling.{turn_first, turn_second, turn_both, turn_only_first, turn_only_second, steps_ends}
+use Rattle.compared.specs.Code.{wanting, turn_of, body_in, found_of, Steps}
+use Rattle.compared.proofs.Stepping.{more_there, steps_first, steps_second, steps_done, wanting_few, steps_unknown, steps_known}
+use Rattle.compared.proofs.Settling.{turn_first, turn_second, steps_ends, steps_records}
 use Rattle.compared.proofs.Passing.{going_start, passes_step}
 
 -- a text with room for what a step says
@@ -80,33 +80,16 @@ module _ (asked : Asked) (xs ys : List ℕ) (ended ended' : Bool) where
       go false false true w w' d = pass_step (steps_unknown placed refl refl refl w w' d (put_blank (end_text (start_of xs) (start_of ys) 0)))
       go false false false w w' d = pass_step (steps_known placed refl refl refl d refl refl)
 
-  -- a place of both listings
-  pass_place : {number named v w : ℕ} {f g : Found} {p q : ℕ} → Placed xs 0 ended f p → Placed ys 0 ended' g q → 0 < p + q → Pass asked (Records number named v w) xs ys ended ended'
-  pass_place {number} {named} {v} {w} {f} {g} x y some =
-      let sides = in_versions v w asked in
-      let es = events_at number (naming sides f g) in
-      let noted : Noted = record { named = capped (named + length es); out = length (events_text es) } in
-      let notes : Notes sides number named f g blank 0 noted (write blank 0 (events_text es)) = record { put = put_blank (events_text es); count = refl } in
-      pass_step (steps_note x y (omega (arith, some)) refl refl notes)
-
   module _ {s t : Stands} (sees : Sees xs 0 ended s) (sees' : Sees ys 0 ended' t) where
     pass_turn : (number named v w : ℕ) (u : Turn) → turn_of s t ≡ u → Pass asked (Records number named v w) xs ys ended ended'
     pass_turn number named v w First e = pass_step (steps_first placed (more_there sees (turn_first s t e)))
     pass_turn number named v w Second e = pass_step (steps_second placed (more_there sees' (turn_second s t e)))
     pass_turn number named v w (Ends a b) e = pass_step (steps_ends asked v w placed sees sees' e (put_blank (end_text a b named)) refl)
-    pass_turn number named v w (Both a b c d) e =
-        let both = turn_both s t e in
-        let x = placed_body sees both.0 refl in
-        let y = placed_body sees' both.1 refl in
-        pass_place x.0 y.0 (omega (arith, x.1))
-    pass_turn number named v w (OnlyFirst a b) e =
-        let only = turn_only_first s t e in
-        let x = placed_body sees only.0 refl in
-        pass_place x.0 (placed_end sees' only.1 refl placed.1) (omega (arith, x.1))
-    pass_turn number named v w (OnlySecond c d) e =
-        let only = turn_only_second s t e in
-        let y = placed_body sees' only.1 refl in
-        pass_place (placed_end sees only.0 refl placed.0) y.0 (omega (arith, y.1))
+    pass_turn number named v w ToRecords e =
+        let sides = in_versions v w asked in
+        let es = events_at number (naming sides (found_of (body_in xs s)) (found_of (body_in ys t))) in
+        let noted : Noted = record { named = capped (named + length es); out = length (events_text es) } in
+        pass_step (steps_records placed sees sees' e refl refl refl refl (record { put = put_blank (events_text es); count = refl }))
 
   -- whatever is held, there is a pass from it
   pub pass : (stage : Stage) → Bytes xs → Bytes ys → Pass asked stage xs ys ended ended'

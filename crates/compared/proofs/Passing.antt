@@ -59,15 +59,15 @@ used_some (ends e different d) on = absurd (let z : ◌≡◌ {A = ℕ} 0 1 = cc
 
 module _ {asked : Asked} {start : Stage} {xs ys : List ℕ} {ended ended' : Bool} {before : List ℕ} {stage : Stage} {at at' out : ℕ} {text : List ℕ} (g : Going asked start xs ys ended ended' before stage at at' out text) where
   -- the text is full
-  pub passes_full : longest_event ≤ length before → length text - out < longest_event → Passes asked start xs ys ended ended' (record { stage = stage; first = at; second = at'; out = out; next = On }) text
-  passes_full room none_left =
+  pub passes_full : {next : Next} → next ≡ On → longest_event ≤ length before → length text - out < longest_event → Passes asked start xs ys ended ended' (record { stage = stage; first = at; second = at'; out = out; next = next }) text
+  passes_full on room none_left =
       record {
         says = g.says;
         goes = g.goes;
         put = put_front (omega (arith, g.put.next, g.fits)) g.put;
         fits = omega (arith, g.fits, g.same_length);
         within = g.within;
-        follows = follows_on refl (omega (arith, none_left, room, g.same_length, g.said));
+        follows = follows_on on (omega (arith, none_left, room, g.same_length, g.said));
       }
 
   -- one step more
@@ -78,9 +78,6 @@ module _ {asked : Asked} {start : Stage} {xs ys : List ℕ} {ended ended' : Bool
 
     both : Put before 0 (g.says ++ took.says) r.out after
     both = and_then says-room g.put took.put
-
-    pub less_left : r.next ≡ On → (length xs - r.first) + (length ys - r.second) < (length xs - at) + (length ys - at')
-    less_left on = omega (arith, used_some took.follows on, took.onward.0, took.onward.1, took.within.0, took.within.1)
 
     pub going_on : r.next ≡ On → Going asked start xs ys ended ended' before r.stage r.first r.second r.out after
     going_on on =

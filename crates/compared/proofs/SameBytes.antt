@@ -1,14 +1,17 @@
 -- Laws of `same`: it holds exactly of equal runs of bytes. And of eight bytes as one number: equal numbers come of equal bytes.
 -- Assumes nothing.
-use mathlib.Core.Path.{◌≡◌, refl, ap₂}
+use Rattle.std.specs.Prelude.{nat_eq}
+use Rattle.std.specs.Cmp.Lexicographic.{pointwise}
+use mathlib.Core.Path.{◌≡◌, refl, sym, ap, ap₂}
 use mathlib.Core.Bool.{Bool, true, false, ◌&&◌}
 use mathlib.Core.List.{List, [], ◌∷◌}
-use Prim.Native.Nat.{ℕ, ◌+◌, ◌*◌, ◌<◌}
+use Prim.Native.Nat.{ℕ, ◌+◌, ◌*◌, ◌<◌, ◌≤◌}
 use native.Mathlib.Omega.{arith}
 use lib.Dec.{eqb}
 use lib.ListN.{length, get_or}
+use lib.Seq.{ext_get_or}
 use borrow.Author.Count.{below_more}
-use borrow.Author.Tests.{eq-eqb, eqb-true}
+use borrow.Author.Tests.{eq-eqb, eqb-true, eqb-false}
 use Rattle.text.specs.Words.{same}
 use Rattle.compared.specs.Eights.{number, Digits, eight, Eight}
 
@@ -71,3 +74,18 @@ module _ {a b : List ℕ} {at r s : ℕ} (first : Eight a at r) (second : Eight 
     where
       more : (n : ℕ) → EqualBelow a b (at + n) → get_or a (at + n) 0 ≡ get_or b (at + n) 0 → EqualBelow a b (at + (n + 1))
       more n all here k l = below_more (λ k. get_or a k 0 ≡ get_or b k 0) (at + n) all here k (omega arith)
+
+  -- where the eight end with both lists, they decide
+  pub eights_same : length a ≡ length b → length a ≤ at + 8 → EqualBelow a b at → eqb r s ≡ same a b
+  eights_same l ends below = go (eqb r s) refl
+    where
+      go : (t : Bool) → eqb r s ≡ t → t ≡ same a b
+      go true e = sym (equal_same a b (ext_get_or 0 a b l (λ k m. eight_more (eqb-true r s e) below k (omega (arith, m, ends)))))
+      go false e = sym (unequal_same a b (eight_unequal (eqb-false r s e)))
+
+-- so does the library's comparison
+pub pointwise_same : (a b : List ℕ) → pointwise nat_eq a b ≡ same a b
+pointwise_same [] [] = refl
+pointwise_same [] (y ∷ b) = refl
+pointwise_same (x ∷ a) [] = refl
+pointwise_same (x ∷ a) (y ∷ b) = ap (λ (t : Bool). eqb x y && t) (pointwise_same a b)

@@ -66,9 +66,6 @@ module _ {xs : List ℕ} {at : ℕ} {ended : Bool} {s : Stands} (sees : Sees xs 
         omega (arith, to, w.to),
       )
 
-  pub body_inside : {start end : ℕ} → s ≡ Body start end → (start ≤ end) × (end ≤ length xs)
-  body_inside e = let w = body-there e in (omega (arith, w.from, w.to), w.within)
-
   pub placed_end : {next : ℕ} → s ≡ End → next ≡ place_after at s → at ≤ length xs → Placed xs at ended none next
   placed_end {next} e n placed =
       let there = end_stands xs at ended (sym e ∙ sees.there) in
@@ -208,3 +205,7 @@ module _ {asked : Asked} {xs ys : List ℕ} {at at' : ℕ} {ended ended' : Bool}
 -- a step under another name of its stage
 pub steps_at : {asked : Asked} {stage stage' : Stage} {xs ys : List ℕ} {at at' : ℕ} {ended ended' : Bool} {before : List ℕ} {out : ℕ} {r : Passed} {after : List ℕ} → stage ≡ stage' → Steps asked stage xs ys at at' ended ended' before out r after → Steps asked stage' xs ys at at' ended ended' before out r after
 steps_at {asked} {xs = xs} {ys} {at} {at'} {ended} {ended'} {before} {out} {r} {after} e s = subst (λ (t : Stage). Steps asked t xs ys at at' ended ended' before out r after) e s
+
+-- a step under other names of what is held on each side
+pub steps_held : {asked : Asked} {stage : Stage} {xs xs' ys ys' : List ℕ} {at a at' a' : ℕ} {ended e ended' e' : Bool} {before : List ℕ} {out : ℕ} {r : Passed} {after : List ℕ} → ((xs ≡ xs') × (at ≡ a)) × (ended ≡ e) → ((ys ≡ ys') × (at' ≡ a')) × (ended' ≡ e') → Steps asked stage xs ys at at' ended ended' before out r after → Steps asked stage xs' ys' a a' e e' before out r after
+steps_held p q s = rw (← p.0.0, ← p.0.1, ← p.1, ← q.0.0, ← q.0.1, ← q.1) s

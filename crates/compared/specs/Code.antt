@@ -1,7 +1,7 @@
 -- What contracts inside the compare tool speak of, and no promise: what is to be done at a place, what was put of a record, and the
 -- code's step.
 -- Assumes nothing.
-use Rattle.std.specs.Prelude.{◌≡◌, Bool, ◌&&◌, not, List, ◌++◌, ℕ, ◌+◌, ◌-◌, ◌≤◌, length, take, drop}
+use Rattle.std.specs.Prelude.{◌≡◌, Bool, ◌&&◌, not, List, ◌++◌, ℕ, ◌+◌, ◌-◌, ◌≤◌, length, take, drop, Option, Some, None}
 use Rattle.text.specs.Words.{bytes, empty}
 use Rattle.text.specs.Code.{Put}
 use Rattle.numerals.specs.Decimals.{decimal}
@@ -12,11 +12,12 @@ use Rattle.records.specs.declared.Asked.{Asked}
 use Rattle.compared.specs.declared.Side.TheVariants.{Sound, Cut as SideCut}
 use Rattle.compared.specs.declared.AskedSides.{AskedSides}
 use Rattle.compared.specs.declared.Turn.{Turn}
-use Rattle.compared.specs.declared.Turn.TheVariants.{First, Second, Ends, Both, OnlyFirst, OnlySecond}
+use Rattle.compared.specs.declared.Turn.TheVariants.{First, Second, Ends, Records}
 use Rattle.compared.specs.declared.Noted.{Noted}
 use Rattle.compared.specs.declared.Stage.{Stage}
 use Rattle.compared.specs.declared.Passed.{Passed}
 use Rattle.compared.specs.Places.{Found}
+use Rattle.compared.specs.Places.Found.{found, none}
 use Rattle.compared.specs.Events.{kind_of, naming, events_at}
 use Rattle.compared.specs.Text.{capped, kind_text, events_text, longest_event}
 use Rattle.compared.specs.Pass.{Goes, Follows}
@@ -36,10 +37,21 @@ turn_of Cut End = Ends SideCut Sound
 turn_of Cut Cut = Ends SideCut SideCut
 turn_of (Body a b) Cut = Ends Sound SideCut
 turn_of End Cut = Ends Sound SideCut
-turn_of (Body a b) (Body c d) = Both a b c d
-turn_of (Body a b) End = OnlyFirst a b
-turn_of End (Body c d) = OnlySecond c d
+turn_of (Body a b) (Body c d) = Records
+turn_of (Body a b) End = Records
+turn_of End (Body c d) = Records
 turn_of End End = Ends Sound Sound
+
+-- the body of the record that stands there, and what it is to the other side's
+abbrev pub body_in : List ℕ → Stands → Option (List ℕ)
+body_in xs (Body start end) = Some (take (end - start) (drop start xs))
+body_in xs End = None
+body_in xs Cut = None
+body_in xs More = None
+
+abbrev pub found_of : Option (List ℕ) → Found
+found_of (Some body) = found body
+found_of None = none
 
 -- what is said of a record, in the parts in which it is put
 unfoldable pub head_text : ℕ → List ℕ

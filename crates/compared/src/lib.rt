@@ -4,6 +4,7 @@
 
 pub mod events;
 pub mod pass;
+pub mod reading;
 pub mod same;
 pub mod settle;
 pub mod sides;
@@ -27,29 +28,13 @@ pub enum Side {
 }
 
 // What is to be done at a place of both listings: bytes are wanted, of the first or of the second; the run ends, with what is to be
-// said of each side; or records stand there, on both sides or on one, by the places of their bodies.
+// said of each side; or a record stands there, on both sides or on one.
 #[derive(Clone, Copy)]
 pub enum Turn {
     First,
     Second,
-    Ends {
-        first: Side,
-        second: Side,
-    },
-    Both {
-        first: usize,
-        first_end: usize,
-        second: usize,
-        second_end: usize,
-    },
-    OnlyFirst {
-        start: usize,
-        end: usize,
-    },
-    OnlySecond {
-        start: usize,
-        end: usize,
-    },
+    Ends { first: Side, second: Side },
+    Records,
 }
 
 // How far the comparison has come: nothing yet; before a record, with its number, how many were named, and each side's version; or to

@@ -15,33 +15,13 @@ fn ends(first: Side, second: Side) -> Turn
 pub fn settle(first: Stands, second: Stands) -> Turn
     ensures { result ≡ turn_of first second }
 {
-    match first {
-        Stands::More => Turn::First,
-        Stands::End => match second {
-            Stands::More => Turn::Second,
-            Stands::Cut => ends(Side::Sound, Side::Cut),
-            Stands::End => ends(Side::Sound, Side::Sound),
-            Stands::Body { start, end } => Turn::OnlySecond { start, end },
-        },
-        Stands::Body { start, end } => match second {
-            Stands::More => Turn::Second,
-            Stands::Cut => ends(Side::Sound, Side::Cut),
-            Stands::End => Turn::OnlyFirst { start, end },
-            Stands::Body {
-                start: other,
-                end: other_end,
-            } => Turn::Both {
-                first: start,
-                first_end: end,
-                second: other,
-                second_end: other_end,
-            },
-        },
-        Stands::Cut => match second {
-            Stands::More => Turn::Second,
-            Stands::Cut => ends(Side::Cut, Side::Cut),
-            Stands::End => ends(Side::Cut, Side::Sound),
-            Stands::Body { start, end } => ends(Side::Cut, Side::Sound),
-        },
+    match (first, second) {
+        (Stands::More, _) => Turn::First,
+        (_, Stands::More) => Turn::Second,
+        (Stands::Cut, Stands::Cut) => ends(Side::Cut, Side::Cut),
+        (Stands::Cut, _) => ends(Side::Cut, Side::Sound),
+        (_, Stands::Cut) => ends(Side::Sound, Side::Cut),
+        (Stands::End, Stands::End) => ends(Side::Sound, Side::Sound),
+        _ => Turn::Records,
     }
 }

@@ -1,40 +1,15 @@
 // What is said of each side, and the last line.
-ghost use Rattle.std.specs.Prelude.{◌≡◌, List, drop};
+#![tactic(auto, using(text::proofs::Putting::putting), unfolding(crate::specs::Text::side_text, crate::specs::Text::count_line, crate::specs::Text::end_text))]
+
+ghost use Rattle.std.specs.Prelude.{◌≡◌};
 ghost use Rattle.text.specs.Code.{Room, Put};
-ghost use Rattle.compared.specs.Places.{start_of};
 ghost use Rattle.compared.specs.Report.{is_sound, in_versions, not_same};
 ghost use Rattle.compared.specs.Text.{side_text, count_line, end_text};
-ghost use Rattle.compared.specs.Code.{wanting};
 
 use crate::{AskedSides, Side};
-use frames::numbers::byte_at;
 use numerals::decimals::put_decimal;
 use records::Asked;
 use records::judge::in_version;
-
-// Whether the version byte is still to come.
-pub fn wanting_at(listing: &[u8], at: usize, ended: bool) -> bool
-    ensures { result ≡ wanting (drop at listing.now) ended }
-{
-    if ended {
-        return false;
-    }
-    listing.len() <= at
-}
-
-// What stands before record 0.
-pub fn start_of(listing: &[u8], at: usize) -> Side
-    ensures { result ≡ start_of (drop at listing.now) }
-{
-    if listing.len() <= at {
-        return Side::Cut;
-    }
-    if frames::known_version(byte_at(listing, at)) {
-        Side::Sound
-    } else {
-        Side::Version
-    }
-}
 
 // The same asked of both sides, of records of their versions.
 pub fn in_versions(first: u32, second: u32, asked: Asked) -> AskedSides
@@ -46,26 +21,19 @@ pub fn in_versions(first: u32, second: u32, asked: Asked) -> AskedSides
     }
 }
 
-pub fn is_sound(side: Side) -> bool
-    ensures { result ≡ is_sound side }
-{
-    match side {
-        Side::Sound => true,
-        Side::Cut => false,
-        Side::Version => false,
+impl Side {
+    pub fn is_sound(self) -> bool
+        ensures { result ≡ is_sound self }
+    {
+        matches!(self, Side::Sound)
     }
 }
 
+// Whether anything is reported.
 pub fn not_same(named: u64, first: Side, second: Side) -> bool
     ensures { result ≡ not_same named first second }
 {
-    if 0 < named {
-        return true;
-    }
-    if !is_sound(first) {
-        return true;
-    }
-    !is_sound(second)
+    0 < named || !first.is_sound() || !second.is_sound()
 }
 
 fn put_side(text: &mut [u8], at: usize, name: &[u8], side: Side) -> usize

@@ -1,6 +1,9 @@
 // A place in a listing that may still go on, and what stands there.
 #![tactic(auto)]
 
+ghost use Rattle.std.specs.Prelude.{◌≡◌};
+ghost use Rattle.cursors.specs.Code.{place_after};
+
 pub mod reader;
 pub mod standing;
 
@@ -14,9 +17,14 @@ pub enum Stands {
     More,
 }
 
-// What stands at a place, and the place after it.
-#[derive(Clone, Copy)]
-pub struct Seen {
-    pub stands: Stands,
-    pub next: usize,
+impl Stands {
+    // The place after what stands at a place: a record's end; where none stands, the place itself.
+    pub fn place_after(self, at: usize) -> usize
+        ensures { result ≡ place_after at self }
+    {
+        match self {
+            Stands::Body { end, .. } => end,
+            Stands::End | Stands::Cut | Stands::More => at,
+        }
+    }
 }

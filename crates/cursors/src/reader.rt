@@ -2,8 +2,8 @@
 ghost use Rattle.std.specs.Prelude.{◌≡◌};
 ghost use Rattle.cursors.specs.Code.{place_after, Sees};
 
-use crate::standing::{place_after, stands_at};
-use crate::{Seen, Stands};
+use crate::Stands;
+use crate::standing::stands_at;
 
 #[derive(Clone, Copy)]
 pub struct Reader<'a> {
@@ -11,40 +11,28 @@ pub struct Reader<'a> {
     pub at: usize,
 }
 
-// A reader at a place.
-pub fn reader_at<'a>(listing: &'a [u8], at: usize) -> Reader<'a>
-    ensures { (result.listing ≡ listing.entry) × (result.at ≡ at) }
-{
-    Reader { listing, at }
-}
-
-// What stands there.
-pub fn stands<'a>(r: Reader<'a>, ended: bool) -> Stands
-    ensures { Sees r.entry.listing.now r.entry.at ended result }
-{
-    stands_at(r.listing, r.at, ended)
-}
-
-// The reader after what stands there.
-pub fn moved<'a>(r: Reader<'a>, over: Stands) -> Reader<'a>
-    ensures { (result.listing ≡ r.entry.listing) × (result.at ≡ place_after r.entry.at over) }
-{
-    Reader {
-        listing: r.listing,
-        at: place_after(r.at, over),
+impl<'a> Reader<'a> {
+    // A reader at a place.
+    pub fn new(listing: &'a [u8], at: usize) -> Self
+        ensures { (result.listing ≡ listing.entry) × (result.at ≡ at) }
+    {
+        Reader { listing, at }
     }
-}
 
-// What stands at a place of a plain slice, and the place after it.
-pub fn look(listing: &[u8], at: usize, ended: bool) -> Seen
-    ensures sees { Sees listing.now at ended result.stands }
-    ensures next_value { result.next ≡ place_after at result.stands }
-{
-    let reader = reader_at(listing, at);
-    let stands = stands(reader, ended);
-    let next = moved(reader, stands);
-    Seen {
-        stands,
-        next: next.at,
+    // What stands there.
+    pub fn stands(self, ended: bool) -> Stands
+        ensures { Sees self.entry.listing.now self.entry.at ended result }
+    {
+        stands_at(self.listing, self.at, ended)
+    }
+
+    // The reader after what stands there.
+    pub fn moved(self, over: Stands) -> Self
+        ensures { (result.listing ≡ self.entry.listing) × (result.at ≡ place_after self.entry.at over) }
+    {
+        Reader {
+            listing: self.listing,
+            at: over.place_after(self.at),
+        }
     }
 }

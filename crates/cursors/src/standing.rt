@@ -1,13 +1,20 @@
-// What stands at a place, and the place after it, in a plain slice.
+// What stands at a place in a plain slice.
 ghost use Rattle.std.specs.Prelude.{◌≡◌};
-ghost use Rattle.cursors.specs.Code.{unfinished as unfinished_by, place_after, Sees};
+ghost use Rattle.cursors.specs.Code.{at_end, unfinished, Sees};
 
 use crate::Stands;
-use frames::numbers::word_at;
+use frames::{Frame, frame_at};
 
-// Where no more bytes are to come, that is known.
+// No bytes are left. Where no more are to come, that is the end.
+fn at_end(ended: bool) -> Stands
+    ensures { result ≡ at_end ended }
+{
+    if ended { Stands::End } else { Stands::More }
+}
+
+// Too few bytes are left for a frame. Where no more are to come, that is known.
 fn unfinished(ended: bool) -> Stands
-    ensures { result ≡ unfinished_by ended }
+    ensures { result ≡ unfinished ended }
 {
     if ended { Stands::Cut } else { Stands::More }
 }
@@ -16,31 +23,10 @@ pub fn stands_at(listing: &[u8], at: usize, ended: bool) -> Stands
     ensures { Sees listing.now at ended result }
 {
     if listing.len() <= at {
-        return if ended { Stands::End } else { Stands::More };
+        return at_end(ended);
     }
-    let left = listing.len() - at;
-    if left < 2 {
-        return unfinished(ended);
-    }
-    let size = word_at(listing, at) as usize;
-    if left - 2 < size {
-        return unfinished(ended);
-    }
-    let start = at + 2;
-    Stands::Body {
-        start,
-        end: start + size,
-    }
-}
-
-// A record's end; where none stands, the place itself.
-pub fn place_after(at: usize, over: Stands) -> usize
-    ensures { result ≡ place_after at over }
-{
-    match over {
-        Stands::Body { start, end } => end,
-        Stands::End => at,
-        Stands::Cut => at,
-        Stands::More => at,
+    match frame_at(listing, at) {
+        Some(Frame { start, end }) => Stands::Body { start, end },
+        None => unfinished(ended),
     }
 }

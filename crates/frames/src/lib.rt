@@ -12,34 +12,35 @@ pub const VERSION_1: u32 = 1;
 
 pub const VERSION_2: u32 = 2;
 
-// What stands at a place of a listing: a whole frame, by the places of its body, or too few bytes for one.
+// A whole frame in a listing, by the places of its body.
 #[derive(Clone, Copy)]
-pub enum Frame {
-    Whole { start: usize, end: usize },
-    Cut,
+pub struct Frame {
+    pub start: usize,
+    pub end: usize,
 }
 
 pub fn known_version(version: u32) -> bool
     ensures { result ≡ known_version version }
 {
-    (version == VERSION_1) | (version == VERSION_2)
+    matches!(version, VERSION_1 | VERSION_2)
 }
 
-pub fn frame_at(listing: &[u8], at: usize) -> Frame
+// The frame at a place, where there are not too few bytes for one.
+pub fn frame_at(listing: &[u8], at: usize) -> Option<Frame>
     requires { at ≤ length listing.now }
     ensures { result ≡ frame_at listing.now at }
 {
     let left = listing.len() - at;
     if left < 2 {
-        return Frame::Cut;
+        return None;
     }
     let size = numbers::word_at(listing, at) as usize;
     if left - 2 < size {
-        return Frame::Cut;
+        return None;
     }
     let start = at + 2;
-    Frame::Whole {
+    Some(Frame {
         start,
         end: start + size,
-    }
+    })
 }

@@ -7,22 +7,19 @@ pub fn byte_at(xs: &[u8], at: usize) -> u32
     ensures value { result ≡ byte xs.now at }
     ensures upper_bound { result < 2 ^ 8 }
 {
-    xs[at] as u32
+    u32::from(xs[at])
 }
 
 pub fn word_at(xs: &[u8], at: usize) -> u16
     requires { at + 2 ≤ length xs.now }
     ensures { result ≡ word xs.now at }
 {
-    (byte_at(xs, at) * 0x100 + byte_at(xs, at + 1)) as u16
+    u16::from_be_bytes([xs[at], xs[at + 1]])
 }
 
 pub fn dword_at(xs: &[u8], at: usize) -> u32
     requires { at + 4 ≤ length xs.now }
     ensures { result ≡ dword xs.now at }
 {
-    byte_at(xs, at) * 0x100_0000
-        + byte_at(xs, at + 1) * 0x1_0000
-        + byte_at(xs, at + 2) * 0x100
-        + byte_at(xs, at + 3)
+    u32::from_be_bytes([xs[at], xs[at + 1], xs[at + 2], xs[at + 3]])
 }

@@ -15,11 +15,9 @@ use Rattle.names.specs.declared.Arm.{Arm}
 use Rattle.branches.specs.declared.Mode.{Mode}
 use Rattle.places.specs.Order.{is_nothing, from_the_left}
 use Rattle.places.specs.Places.{item_at, items_at}
-use Rattle.places.specs.declared.Place.{Place}
 use Rattle.places.specs.declared.Plan.{Plan}
 use Rattle.lines.specs.Text.{shows, parted_text, items_text}
-use Rattle.lines.specs.Code.{items_from}
-use Rattle.lines.specs.Code.{place_at}
+use Rattle.lines.proofs.Places.{place_at, items_from}
 
 shows-not-nothing : (x : Shown) → is_nothing x ≡ not (shows x)
 shows-not-nothing Nothing = refl
@@ -93,11 +91,8 @@ module _ (mode : Mode) (arm : Arm) (i : Instruction) (plan : Plan) (left : from_
   none_from (suc (suc (suc zero))) h e = none_from_d e
   none_from (suc (suc (suc (suc k)))) h e = absurd (omega arith)
 
-  -- the same of place k as the code has it, and its test
+  -- the same by the code's test of place k
   pub items_none :
-      (k : ℕ) → k < 4 →
-      {p : Place} → p ≡ place_at plan k →
-      {shown : Bool} → shown ≡ shows (item_at mode arm i p).shown →
-      not shown ≡ true →
+      (k : ℕ) → k < 4 → {shown : Bool} → shown ≡ shows (item_at mode arm i (place_at plan k)).shown → not shown ≡ true →
       items_from k (items_at mode arm i plan) ≡ []
-  items_none k h there {shown} is t = none_from k h (rw (← there, ← is) (sym (not-not shown) ∙ ap not t))
+  items_none k h {shown} is t = none_from k h (rw (← is) (sym (not-not shown) ∙ ap not t))

@@ -1,13 +1,13 @@
 -- What a place shows of a record, and its text, case by case.
 -- Assumes nothing.
+use Rattle.std.specs.Prelude.{Option}
 use mathlib.Core.Path.{◌≡◌, refl, sym, ap, ◌∙◌}
 use mathlib.Core.Bool.{Bool, true, false, cond, not, ◌&&◌, not-not}
 use mathlib.Core.List.{List, [], ◌∷◌, ◌++◌, append-nil, append_assoc}
 use Prim.Native.Nat.{ℕ, zero, suc, ◌+◌, ◌≤◌, ◌<◌}
 use native.Mathlib.Omega.{arith}
 use lib.Dec.{eqb, ltb}
-use lib.ListN.{get_or, get_or-map}
-use borrow.Author.Tests.{eq-eqb, ne_eqb}
+use lib.ListN.{get_or}
 use Rattle.text.specs.Words.{bytes}
 use Rattle.numerals.specs.Numerals.{numeral}
 use Rattle.names.specs.Labels.{labels, label_word}
@@ -18,16 +18,15 @@ use Rattle.operands.specs.Parts.{starting_at, operand_in, shown_of, segment_of, 
 use Rattle.operands.specs.RegisterBytes.{st0}
 use Rattle.operands.specs.declared.Address.{Address}
 use Rattle.operands.specs.declared.BranchWord.{BranchWord}
-use Rattle.operands.specs.declared.Broadcast.{Broadcast}
 use Rattle.operands.specs.declared.Instruction.{Instruction}
 use Rattle.operands.specs.declared.Label.{Label}
-use Rattle.operands.specs.declared.Label.TheVariants.{None}
+use Rattle.operands.specs.declared.Items.{Items}
 use Rattle.operands.specs.declared.Operand.{Operand}
 use Rattle.operands.specs.declared.Operand.TheVariants as operand
 use Rattle.operands.specs.declared.Shown.{Shown}
 use Rattle.operands.specs.declared.Shown.TheVariants as shown
 use Rattle.operands.specs.declared.Shown.TheVariants.{Name, St, Branch}
-use Rattle.bodies.specs.Body.{opcode_of, flags_of, length_of, count_of}
+use Rattle.bodies.specs.Body.{length_of, count_of}
 use Rattle.bodies.specs.Decoding.{operand_at, instruction_of}
 use Rattle.bodies.proofs.Accepted.{absent_from_count}
 use Rattle.bodies.proofs.Counted.{operand_in_lem}
@@ -35,7 +34,6 @@ use Rattle.places.proofs.Starts.{operand_unstarted}
 use Rattle.branches.specs.Sums.{branch_shown}
 use Rattle.branches.specs.declared.Mode.{Mode}
 use Rattle.branches.specs.declared.Mode.TheVariants.{Crate, Straight, Target}
-use Rattle.places.specs.Labels.{label_number, labels_in_order, label_at}
 use Rattle.places.specs.Places.{segment_shown, value_shown, mask_shown, operand_shown, branch_of, item_at, items_at}
 use Rattle.places.specs.declared.Mask.{Mask}
 use Rattle.places.specs.declared.Mask.TheVariants.{Itself, Second}
@@ -47,23 +45,9 @@ use Rattle.places.specs.declared.Segment.TheVariants.{Hidden, Shown as Own, Unle
 use Rattle.lines.specs.Fronts.{label_text, segment_text}
 use Rattle.lines.specs.Brackets.{mask_text, masked_text}
 use Rattle.lines.specs.Items.{absolute_text, branch_text, target_text, shown_text, broadcast_text, item_text}
-use Rattle.lines.specs.Head.{head_of}
-use Rattle.lines.specs.Text.{head_text, shows, parted_text, items_text, tail_word, line_text, line_by}
-use Rattle.lines.specs.Code.{items_from}
-use Rattle.lines.specs.Code.{shown_segment, shown_mask, front_text, register_text, place_at, separator_at}
+use Rattle.lines.specs.Text.{shows, parted_text, items_text}
+use Rattle.lines.specs.Code.{shown_segment, shown_mask, front_text, end_text, register_text, separator_at}
 use Rattle.lines.proofs.Parts.{masked_append}
-
--- a table's end may have an empty word more
-empty_last : (ws : List (List ℕ)) (n : ℕ) → get_or (ws ++ ([] ∷ [])) n [] ≡ get_or ws n []
-empty_last [] zero = refl
-empty_last [] (suc n) = refl
-empty_last (w ∷ ws) zero = refl
-empty_last (w ∷ ws) (suc n) = empty_last ws n
-
--- the label of a number has the word of that number
-pub label_by_number : (n : ℕ) → label_text (label_at n) ≡ label_word n
-unfolding label_text label_at label_word labels
-label_by_number n = sym (get_or-map (λ (l : Label). get_or labels (label_number l) []) labels_in_order n None) ∙ empty_last labels n
 
 -- the segment that is shown of an operand is that of its own
 segment_by_own : (segment : Segment) (o : Operand) → segment_shown segment o ≡ shown_segment segment (segment_of o)
@@ -101,9 +85,9 @@ unfolding item_text label_text label_word labels segment_text mask_text broadcas
 text_bare s = append-nil (shown_text s)
 
 -- how an operand is shown, case by case
-module _ (label : ℕ) (segment : Segment) (short : Bool) (mask : Mask) (second : ℕ) (b : Broadcast) where
+module _ (label : Label) (segment : Segment) (short : Bool) (mask : Mask) (second : ℕ) (b : Option ℕ) where
   abbrev text_of : Operand → List ℕ
-  text_of o = item_text (operand_shown (label_at label) segment short mask second b o)
+  text_of o = item_text (operand_shown label segment short mask second b o)
 
   module _ (o : Operand) where
     -- an operand that is no memory
@@ -116,8 +100,8 @@ module _ (label : ℕ) (segment : Segment) (short : Bool) (mask : Mask) (second 
     memory : is_memory o ≡ true → is_register o ≡ false → text_of o ≡ front_text label (shown_segment segment (segment_of o)) ++ (shown_text (shown_of o) ++ (mask_text (shown_mask mask (mask_of o) second) ++ broadcast_text b))
     unfolding operand_shown item_text
     memory m r =
-        rw (m, segment_by_own segment o, mask_by_own mask second o m, unshortened short o r, label_by_number label)
-        (sym (append_assoc (label_word label) (segment_text (shown_segment segment (segment_of o))) (shown_text (shown_of o) ++ (mask_text (shown_mask mask (mask_of o) second) ++ broadcast_text b))))
+        rw (m, segment_by_own segment o, mask_by_own mask second o m, unshortened short o r)
+        (sym (append_assoc (label_text label) (segment_text (shown_segment segment (segment_of o))) (shown_text (shown_of o) ++ (mask_text (shown_mask mask (mask_of o) second) ++ broadcast_text b))))
 
   module _ {o : Operand} where
     pub text_absent : o ≡ operand.Absent → text_of o ≡ []
@@ -133,24 +117,22 @@ module _ (label : ℕ) (segment : Segment) (short : Bool) (mask : Mask) (second 
     text_number {kind} {value} e =
         rw e (plain (operand.Imm kind value) refl refl refl ∙ ap shown_text (unshortened short (operand.Imm kind value) refl))
 
-    -- memory, after the front with the segment `s` and before the mask `m` and the broadcast
-    module _ {s own : ℕ} (is : s ≡ shown_segment segment own) where
-      module _ {m : ℕ} (masked : m ≡ shown_mask mask 0 second) where
-        pub text_word : {address : ℕ} → o ≡ operand.Absolute16 own address → text_of o ≡ front_text label s ++ (absolute_text 4 address ++ (mask_text m ++ broadcast_text b))
-        unfolding shown_text
-        text_word {address} e = rw (e, is, masked) (memory (operand.Absolute16 own address) refl refl)
+    -- memory, between what stands before and after it
+    pub text_word : {own address : ℕ} → o ≡ operand.Absolute16 own address → text_of o ≡ front_text label (shown_segment segment own) ++ (absolute_text 4 address ++ end_text (shown_mask mask 0 second) b)
+    unfolding shown_text
+    text_word {own} {address} e = rw e (memory (operand.Absolute16 own address) refl refl)
 
-        pub text_dword : {address : ℕ} → o ≡ operand.Absolute32 own address → text_of o ≡ front_text label s ++ (absolute_text 8 address ++ (mask_text m ++ broadcast_text b))
-        unfolding shown_text
-        text_dword {address} e = rw (e, is, masked) (memory (operand.Absolute32 own address) refl refl)
+    pub text_dword : {own address : ℕ} → o ≡ operand.Absolute32 own address → text_of o ≡ front_text label (shown_segment segment own) ++ (absolute_text 8 address ++ end_text (shown_mask mask 0 second) b)
+    unfolding shown_text
+    text_dword {own} {address} e = rw e (memory (operand.Absolute32 own address) refl refl)
 
-      pub text_bracket : {address : Address} {k m : ℕ} → m ≡ shown_mask mask k second → o ≡ operand.Memory own address k → text_of o ≡ front_text label s ++ (masked_text address m ++ broadcast_text b)
-      unfolding shown_text
-      text_bracket {address} {k} masked e =
-          rw (e, is, masked)
-          (memory (operand.Memory own address k) refl refl
-          ∙ ap (λ (t : List ℕ). front_text label (shown_segment segment own) ++ t)
-          (sym (masked_append address (shown_mask mask k second) (broadcast_text b))))
+    pub text_bracket : {own : ℕ} {address : Address} {k m : ℕ} → m ≡ shown_mask mask k second → o ≡ operand.Memory own address k → text_of o ≡ front_text label (shown_segment segment own) ++ (masked_text address m ++ broadcast_text b)
+    unfolding shown_text
+    text_bracket {own} {address} {k} masked e =
+        rw (e, masked)
+        (memory (operand.Memory own address k) refl refl
+        ∙ ap (λ (t : List ℕ). front_text label (shown_segment segment own) ++ t)
+        (sym (masked_append address (shown_mask mask k second) (broadcast_text b))))
 
 -- what a place shows, case by case
 module _ (mode : Mode) (arm : Arm) (i : Instruction) {p : Place} where
@@ -173,9 +155,9 @@ operand_started start body few k = operand_in_lem body few k ∙ sym (operand_un
 -- operand k at a place, as the code has it from the body
 pub place_operand :
     (mode : Mode) (arm : Arm) (start : ℕ) (body : List ℕ) → count_of body ≤ 4 →
-    {p : Place} {k label : ℕ} {segment : Segment} {short : Bool} {mask : Mask} {b : Broadcast} → p ≡ place.Operand k label segment short mask b →
+    {p : Place} {k : ℕ} {label : Label} {segment : Segment} {short : Bool} {mask : Mask} {b : Option ℕ} → p ≡ place.Operand k label segment short mask b →
     {o : Operand} → o ≡ operand_at body k →
-    item_text (item_at mode arm (starting_at start (instruction_of body)) p) ≡ item_text (operand_shown (label_at label) segment short mask (register_of (operand_at body 1)) b o)
+    item_text (item_at mode arm (starting_at start (instruction_of body)) p) ≡ item_text (operand_shown label segment short mask (register_of (operand_at body 1)) b o)
 unfolding item_at
 place_operand mode arm start body few {k = k} e is = rw (e, is, operand_started start body few k, operand_started start body few 1)
 
@@ -214,7 +196,7 @@ module _ (mode : Mode) (arm : Arm) (i : Instruction) {p : Place} where
 
 pub shows_stored :
     (mode : Mode) (arm : Arm) (start : ℕ) (body : List ℕ) → count_of body ≤ 4 →
-    {p : Place} {k label : ℕ} {segment : Segment} {short : Bool} {mask : Mask} {b : Broadcast} → p ≡ place.Operand k label segment short mask b →
+    {p : Place} {k : ℕ} {label : Label} {segment : Segment} {short : Bool} {mask : Mask} {b : Option ℕ} → p ≡ place.Operand k label segment short mask b →
     shows (item_at mode arm (starting_at start (instruction_of body)) p).shown ≡ ltb k (count_of body)
 unfolding item_at operand_shown
 shows_stored mode arm start body few {k = k} {short = short} e =
@@ -247,27 +229,17 @@ pub text_target : {s : Shown} {word : BranchWord} {target : ℕ} → s ≡ shown
 unfolding shown_text
 text_target e = rw e
 
--- a register, shortened or not
-pub register_st : (short : Bool) (reg : ℕ) → (short && eqb reg st0) ≡ true → register_text short reg ≡ bytes "st"
-register_st short reg e = rw e
+-- place k of a plan; past the fourth there is nothing
+abbrev pub place_at : Plan → ℕ → Place
+place_at plan k = get_or (plan.a ∷ plan.b ∷ plan.c ∷ plan.d ∷ []) k place.Nothing
 
-pub register_whole : (short : Bool) (reg : ℕ) → (short && eqb reg st0) ≡ false → register_text short reg ≡ register_name reg
-register_whole short reg e = rw e
-
--- what stands before place k
-pub separator_first : (k : ℕ) → k ≡ 0 → separator_at k ≡ bytes " "
-separator_first k e = rw (eq-eqb k 0 e)
-
-pub separator_later : (k : ℕ) → (k ≡ 0 → ⊥) → separator_at k ≡ bytes ", "
-separator_later k e = rw (ne_eqb k 0 e)
-
--- past the fourth place there is nothing
-pub place_past : (plan : Plan) (k : ℕ) → 4 ≤ k → place_at plan k ≡ place.Nothing
-place_past plan zero h = absurd (omega arith)
-place_past plan (suc zero) h = absurd (omega arith)
-place_past plan (suc (suc zero)) h = absurd (omega arith)
-place_past plan (suc (suc (suc zero))) h = absurd (omega arith)
-place_past plan (suc (suc (suc (suc k)))) h = refl
+-- the operands from number k on
+abbrev pub items_from : ℕ → Items → List ℕ
+items_from zero is = items_text is
+items_from (suc zero) is = parted_text (bytes ", ") is.b ++ (parted_text (bytes ", ") is.c ++ parted_text (bytes ", ") is.d)
+items_from (suc (suc zero)) is = parted_text (bytes ", ") is.c ++ parted_text (bytes ", ") is.d
+items_from (suc (suc (suc zero))) is = parted_text (bytes ", ") is.d
+items_from (suc (suc (suc (suc k)))) is = []
 
 module _ (mode : Mode) (arm : Arm) (i : Instruction) (plan : Plan) where
   -- place k, and those after it
@@ -286,19 +258,11 @@ module _ (mode : Mode) (arm : Arm) (i : Instruction) (plan : Plan) where
   items_end (suc (suc (suc zero))) h = absurd (omega arith)
   items_end (suc (suc (suc (suc k)))) h = refl
 
-  -- place k as the code has it, and whether it shows something
-  module _ (k : ℕ) (h : k < 4) {p : Place} (there : p ≡ place_at plan k) {shown : Bool} (is : shown ≡ shows (item_at mode arm i p).shown) where
-    -- a place that shows something is put after what parts it
-    pub items_shown : not shown ≡ false → items_from k (items_at mode arm i plan) ≡ separator_at k ++ (item_text (item_at mode arm i p) ++ items_from (k + 1) (items_at mode arm i plan))
-    unfolding parted_text
-    items_shown t =
-        items_next k h
-        ∙ rw (← there, ← is, sym (not-not shown) ∙ ap not t) (append_assoc (separator_at k) (item_text (item_at mode arm i p)) (items_from (k + 1) (items_at mode arm i plan)))
-
--- the line of a body: its head, its places after it, and the tail
-pub line_by_lem :
-    (mode : Mode) (arm : Arm) (plan : Plan) (start : ℕ) (body : List ℕ) {opcode flags : ℕ} →
-    opcode ≡ opcode_of body → flags ≡ flags_of body →
-    line_text (line_by mode arm plan (starting_at start (instruction_of body))) ≡ head_text (head_of arm opcode flags) ++ (items_text (items_at mode arm (starting_at start (instruction_of body)) plan) ++ tail_word plan.tail)
-unfolding line_text instruction_of
-line_by_lem mode arm plan start body o f = rw (o, f)
+  -- a place that shows something is put after what parts it
+  pub items_shown :
+      (k : ℕ) → k < 4 → {shown : Bool} → shown ≡ shows (item_at mode arm i (place_at plan k)).shown → not shown ≡ false →
+      items_from k (items_at mode arm i plan) ≡ separator_at k ++ (item_text (item_at mode arm i (place_at plan k)) ++ items_from (k + 1) (items_at mode arm i plan))
+  unfolding parted_text
+  items_shown k h {shown} is t =
+      items_next k h
+      ∙ rw (← is, sym (not-not shown) ∙ ap not t) (append_assoc (separator_at k) (item_text (item_at mode arm i (place_at plan k))) (items_from (k + 1) (items_at mode arm i plan)))

@@ -1,5 +1,6 @@
 -- No operand's text is longer than so; and document 02's "A line may have 320 bytes."
 -- Assumes nothing.
+use Rattle.std.specs.Prelude.{Option, Some, None}
 use mathlib.Core.Bool.{Bool}
 use mathlib.Core.List.{List, [], ◌∷◌, ◌++◌}
 use Prim.Native.Nat.{ℕ, zero, suc, ◌+◌, ◌/◌, ◌%◌, ◌≤◌}
@@ -22,8 +23,6 @@ use Rattle.names.specs.Labels.{labels, label_word}
 use Rattle.operands.specs.declared.Address.{Address}
 use Rattle.operands.specs.declared.BranchWord.{BranchWord}
 use Rattle.operands.specs.declared.BranchWord.TheVariants as word
-use Rattle.operands.specs.declared.Broadcast.{Broadcast}
-use Rattle.operands.specs.declared.Broadcast.TheVariants as broadcast
 use Rattle.operands.specs.declared.Item.{Item}
 use Rattle.operands.specs.declared.Shown.{Shown}
 use Rattle.operands.specs.declared.Shown.TheVariants.{Nothing, Name, St, Number, Word, Dword, Bracket, Branch, Target}
@@ -145,10 +144,10 @@ within_short (suc k) n =
     (λ e. omega (arith, length-append (decimal_within k (n / 10)) ((48 + n % 10) ∷ []), within_short k (n / 10)))
 
 -- `{1to16}`
-broadcast_short : (b : Broadcast) → length (broadcast_text b) ≤ 7
+broadcast_short : (b : Option ℕ) → length (broadcast_text b) ≤ 7
 unfolding broadcast_text
-broadcast_short broadcast.None = lit≤ tt
-broadcast_short (broadcast.To n) =
+broadcast_short None = lit≤ tt
+broadcast_short (Some n) =
     omega (
       arith,
       length-append (bytes "{1to") (decimal_within 2 n ++ bytes "}"),

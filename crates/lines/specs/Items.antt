@@ -1,14 +1,12 @@
 -- The text of an operand: its label, its segment, what is shown, its mask and its broadcast.
 -- Assumes nothing.
-use Rattle.std.specs.Prelude.{Bool, cond, List, [], ◌++◌, ℕ}
+use Rattle.std.specs.Prelude.{Bool, Option, Some, None, cond, List, [], ◌++◌, ℕ}
 use Rattle.text.specs.Words.{bytes}
 use Rattle.numerals.specs.Decimals.{decimal_within}
 use Rattle.numerals.specs.Numerals.{numeral, absolute}
 use Rattle.names.specs.Registers.{register_name}
 use Rattle.operands.specs.declared.BranchWord.{BranchWord}
 use Rattle.operands.specs.declared.BranchWord.TheVariants as word
-use Rattle.operands.specs.declared.Broadcast.{Broadcast}
-use Rattle.operands.specs.declared.Broadcast.TheVariants as broadcast
 use Rattle.operands.specs.declared.Item.{Item}
 use Rattle.operands.specs.declared.Shown.{Shown}
 use Rattle.operands.specs.declared.Shown.TheVariants.{Nothing, Name, St, Number, Word, Dword, Bracket, Branch, Target}
@@ -49,9 +47,9 @@ shown_text (Branch word minus size) = branch_text word minus size
 shown_text (Target word target) = target_text word target
 
 -- document 02's `{1toN}`, as `{1to16}`; two digits are enough, since "a printed `{1toN}` with N above 16" is refused
-unfoldable pub broadcast_text : Broadcast → List ℕ
-broadcast_text broadcast.None = []
-broadcast_text (broadcast.To n) = bytes "{1to" ++ (decimal_within 2 n ++ bytes "}")
+unfoldable pub broadcast_text : Option ℕ → List ℕ
+broadcast_text None = []
+broadcast_text (Some n) = bytes "{1to" ++ (decimal_within 2 n ++ bytes "}")
 
 -- `qword ptr fs:[ebx]{k1}{1to8}`
 unfoldable pub item_text : Item → List ℕ

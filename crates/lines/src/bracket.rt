@@ -1,27 +1,21 @@
 // A bracket: the parts that the operand's kind has, in document 01's order; and the mask after it.
+#![tactic(auto, using(text::proofs::Putting::putting), unfolding(crate::specs::Brackets::base_text, crate::specs::Brackets::scale_text, crate::specs::Brackets::indexed_text, crate::specs::Brackets::index_text, crate::specs::Brackets::tail_text, crate::specs::Brackets::bracket_text, crate::specs::Brackets::mask_text, crate::specs::Brackets::masked_text))]
+
 ghost use Rattle.std.specs.Prelude.{◌++◌};
-ghost use Rattle.names.specs.Registers.{register_name, RegisterTable};
+ghost use Rattle.names.specs.Registers.{register_name};
 ghost use Rattle.text.specs.Code.{Room, Put};
 ghost use Rattle.text.specs.Words.{bytes};
 ghost use Rattle.lines.specs.Brackets.{base_text, scale_text, indexed_text, index_text, tail_text, bracket_text, mask_text, masked_text};
 
-use names::registers::{Letters, Starts};
+use names::registers::RegisterTable;
 use operands::Address;
 
-fn put_base(
-    buf: &mut [u8],
-    at: usize,
-    letters: &Letters,
-    starts: &Starts,
-    based: bool,
-    base: u8,
-) -> usize
-    requires register_table { RegisterTable letters.now starts.now }
-    requires room { Room buf.old at (base_text based base) }
+fn put_base(buf: &mut [u8], at: usize, registers: &RegisterTable, based: bool, base: u8) -> usize
+    requires { Room buf.old at (base_text based base) }
     ensures { Put buf.old at (base_text based base) result buf.new }
 {
     if based {
-        names::registers::put_register(buf, at, letters, starts, base)
+        names::registers::put_register(buf, at, registers, base)
     } else {
         at
     }
@@ -42,28 +36,25 @@ fn put_scale(buf: &mut [u8], at: usize, scale: u8) -> usize
 fn put_indexed(
     buf: &mut [u8],
     at: usize,
-    letters: &Letters,
-    starts: &Starts,
+    registers: &RegisterTable,
     based: bool,
     index: u8,
     scale: u8,
 ) -> usize
-    requires register_table { RegisterTable letters.now starts.now }
-    requires room { Room buf.old at (indexed_text based index scale) }
+    requires { Room buf.old at (indexed_text based index scale) }
     ensures { Put buf.old at (indexed_text based index scale) result buf.new }
 {
     let next = text::put_when(buf, at, based, b" + ");
-    let next = names::registers::put_register(buf, next, letters, starts, index);
+    let next = names::registers::put_register(buf, next, registers, index);
     put_scale(buf, next, scale)
 }
 
-fn put_index(buf: &mut [u8], at: usize, letters: &Letters, starts: &Starts, a: Address) -> usize
-    requires register_table { RegisterTable letters.now starts.now }
-    requires room { Room buf.old at (index_text a) }
+fn put_index(buf: &mut [u8], at: usize, registers: &RegisterTable, a: Address) -> usize
+    requires { Room buf.old at (index_text a) }
     ensures { Put buf.old at (index_text a) result buf.new }
 {
     if a.indexed {
-        put_indexed(buf, at, letters, starts, a.based, a.index, a.scale)
+        put_indexed(buf, at, registers, a.based, a.index, a.scale)
     } else {
         at
     }
@@ -83,41 +74,33 @@ fn put_tail(buf: &mut [u8], at: usize, displaced: bool, disp: i32) -> usize
     }
 }
 
-pub fn put_bracket(
-    buf: &mut [u8],
-    at: usize,
-    letters: &Letters,
-    starts: &Starts,
-    a: Address,
-) -> usize
-    requires register_table { RegisterTable letters.now starts.now }
-    requires room { Room buf.old at (bracket_text a) }
+#[tactic(auto, using(text::proofs::Putting::putting), unfolding(crate::specs::Brackets::bracket_text))]
+pub fn put_bracket(buf: &mut [u8], at: usize, registers: &RegisterTable, a: Address) -> usize
+    requires { Room buf.old at (bracket_text a) }
     ensures { Put buf.old at (bracket_text a) result buf.new }
 {
     let next = text::put_byte(buf, at, b'[');
-    let next = put_base(buf, next, letters, starts, a.based, a.base);
-    let next = put_index(buf, next, letters, starts, a);
+    let next = put_base(buf, next, registers, a.based, a.base);
+    let next = put_index(buf, next, registers, a);
     put_tail(buf, next, a.displaced, a.disp)
 }
 
-fn put_braced(buf: &mut [u8], at: usize, letters: &Letters, starts: &Starts, mask: u8) -> usize
-    requires register_table { RegisterTable letters.now starts.now }
-    requires room { Room buf.old at (bytes "{" ++ (register_name mask ++ bytes "}")) }
+fn put_braced(buf: &mut [u8], at: usize, registers: &RegisterTable, mask: u8) -> usize
+    requires { Room buf.old at (bytes "{" ++ (register_name mask ++ bytes "}")) }
     ensures { Put buf.old at (bytes "{" ++ (register_name mask ++ bytes "}")) result buf.new }
 {
     let next = text::put_byte(buf, at, b'{');
-    let next = names::registers::put_register(buf, next, letters, starts, mask);
+    let next = names::registers::put_register(buf, next, registers, mask);
     text::put_byte(buf, next, b'}')
 }
 
 // The mask; most operands have none, and a mask of 0 is not shown.
-pub fn put_mask(buf: &mut [u8], at: usize, letters: &Letters, starts: &Starts, mask: u8) -> usize
-    requires register_table { RegisterTable letters.now starts.now }
-    requires room { Room buf.old at (mask_text mask) }
+pub fn put_mask(buf: &mut [u8], at: usize, registers: &RegisterTable, mask: u8) -> usize
+    requires { Room buf.old at (mask_text mask) }
     ensures { Put buf.old at (mask_text mask) result buf.new }
 {
     if 0 < mask {
-        put_braced(buf, at, letters, starts, mask)
+        put_braced(buf, at, registers, mask)
     } else {
         at
     }
@@ -127,15 +110,13 @@ pub fn put_mask(buf: &mut [u8], at: usize, letters: &Letters, starts: &Starts, m
 pub fn put_masked(
     buf: &mut [u8],
     at: usize,
-    letters: &Letters,
-    starts: &Starts,
+    registers: &RegisterTable,
     a: Address,
     mask: u8,
 ) -> usize
-    requires register_table { RegisterTable letters.now starts.now }
-    requires room { Room buf.old at (masked_text a mask) }
+    requires { Room buf.old at (masked_text a mask) }
     ensures { Put buf.old at (masked_text a mask) result buf.new }
 {
-    let next = put_bracket(buf, at, letters, starts, a);
-    put_mask(buf, next, letters, starts, mask)
+    let next = put_bracket(buf, at, registers, a);
+    put_mask(buf, next, registers, mask)
 }

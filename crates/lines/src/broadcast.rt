@@ -1,11 +1,11 @@
 // What stands after memory that is broadcast: `{1to8}`.
+#![tactic(auto, using(text::proofs::Putting::putting), unfolding(crate::specs::Items::broadcast_text, numerals::specs::Decimals::decimal_within))]
+
 ghost use Rattle.std.specs.Prelude.{◌++◌};
 ghost use Rattle.text.specs.Code.{Room, Put};
 ghost use Rattle.text.specs.Words.{bytes};
 ghost use Rattle.numerals.specs.Decimals.{decimal_within};
 ghost use Rattle.lines.specs.Items.{broadcast_text};
-
-use operands::Broadcast;
 
 // The last two digits of a number, or the one that it has.
 fn put_two_digits(buf: &mut [u8], at: usize, n: u8) -> usize
@@ -28,12 +28,12 @@ fn put_one_to(buf: &mut [u8], at: usize, n: u8) -> usize
     text::put_byte(buf, next, b'}')
 }
 
-pub fn put_broadcast(buf: &mut [u8], at: usize, broadcast: Broadcast) -> usize
+pub fn put_broadcast(buf: &mut [u8], at: usize, broadcast: Option<u8>) -> usize
     requires { Room buf.old at (broadcast_text broadcast) }
     ensures { Put buf.old at (broadcast_text broadcast) result buf.new }
 {
     match broadcast {
-        Broadcast::None => at,
-        Broadcast::To(n) => put_one_to(buf, at, n),
+        None => at,
+        Some(n) => put_one_to(buf, at, n),
     }
 }

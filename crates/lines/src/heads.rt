@@ -1,14 +1,15 @@
 // What stands before the operands: prefix words, the mnemonic and its suffix, from the arm, the opcode and the flags.
+#![tactic(auto, using(text::proofs::Putting::putting), unfolding(crate::specs::Text::reps_text, crate::specs::Text::prefixes_text, crate::specs::Text::name_text, crate::specs::Text::head_text, crate::specs::Head::head_of))]
+
 ghost use Rattle.std.specs.Prelude.{◌≡◌, ◌++◌, ◌/◌, ◌%◌, ◌<◌, eqb};
 ghost use Rattle.text.specs.Choice.{when};
 ghost use Rattle.text.specs.Words.{bytes};
 ghost use Rattle.text.specs.Code.{Room, Put};
-ghost use Rattle.names.specs.Opcodes.{MnemonicTable};
 ghost use Rattle.lines.specs.Head.{can_rep, name_of, suffixed as is_suffixed, head_of};
 ghost use Rattle.lines.specs.Text.{prefixes_text, reps_text, name_text, head_text};
 
 use names::Arm;
-use names::opcodes::{Letters, Starts};
+use names::opcodes::MnemonicTable;
 
 // One bit of the flags, by its weight.
 fn flag(flags: u8, weight: u8) -> bool
@@ -21,10 +22,7 @@ fn flag(flags: u8, weight: u8) -> bool
 fn can_rep(arm: Arm) -> bool
     ensures { result ≡ can_rep arm }
 {
-    match arm {
-        Arm::Movs | Arm::Cmps | Arm::Scas | Arm::Lods => true,
-        _ => false,
-    }
+    matches!(arm, Arm::Movs | Arm::Cmps | Arm::Scas | Arm::Lods)
 }
 
 fn suffixed(arm: Arm, flags: u8) -> bool
@@ -69,16 +67,8 @@ fn put_prefixes(buf: &mut [u8], at: usize, arm: Arm, flags: u8) -> usize
     put_flagged(buf, at, arm, flags)
 }
 
-fn put_name(
-    buf: &mut [u8],
-    at: usize,
-    letters: &Letters,
-    starts: &Starts,
-    arm: Arm,
-    opcode: u16,
-) -> usize
-    requires mnemonic_table { MnemonicTable letters.now starts.now }
-    requires room { Room buf.old at (name_text (name_of arm opcode)) }
+fn put_name(buf: &mut [u8], at: usize, mnemonics: &MnemonicTable, arm: Arm, opcode: u16) -> usize
+    requires { Room buf.old at (name_text (name_of arm opcode)) }
     ensures { Put buf.old at (name_text (name_of arm opcode)) result buf.new }
 {
     match arm {
@@ -87,24 +77,22 @@ fn put_name(
         Arm::Feni => text::put_bytes(buf, at, b"feni"),
         Arm::Fdisi => text::put_bytes(buf, at, b"fdisi"),
         Arm::Fsetpm => text::put_bytes(buf, at, b"fsetpm"),
-        _ => names::opcodes::put_mnemonic(buf, at, letters, starts, opcode),
+        _ => names::opcodes::put_mnemonic(buf, at, mnemonics, opcode),
     }
 }
 
 pub fn put_head(
     buf: &mut [u8],
     at: usize,
-    letters: &Letters,
-    starts: &Starts,
+    mnemonics: &MnemonicTable,
     arm: Arm,
     opcode: u16,
     flags: u8,
 ) -> usize
-    requires mnemonic_table { MnemonicTable letters.now starts.now }
-    requires room { Room buf.old at (head_text (head_of arm opcode flags)) }
+    requires { Room buf.old at (head_text (head_of arm opcode flags)) }
     ensures { Put buf.old at (head_text (head_of arm opcode flags)) result buf.new }
 {
     let next = put_prefixes(buf, at, arm, flags);
-    let next = put_name(buf, next, letters, starts, arm, opcode);
+    let next = put_name(buf, next, mnemonics, arm, opcode);
     text::put_when(buf, next, suffixed(arm, flags), b"d")
 }

@@ -1,5 +1,6 @@
 -- What stands in front, of a listing or of a body alone: its text, how many bytes belong to it, and what follows.
 -- Assumes nothing.
+use Rattle.std.specs.Prelude.{Some, None}
 use mathlib.Core.Path.{◌≡◌, refl, sym, ap, ◌∙◌}
 use mathlib.Core.Bool.{Bool, true, false}
 use mathlib.Core.List.{List, [], ◌++◌, append-nil}
@@ -9,7 +10,8 @@ use lib.ListN.{length, take, drop, length-drop}
 use lib.Seq.{drop-length, take-length}
 use Rattle.answers.specs.Refusals.{answer_of}
 use Rattle.frames.specs.Frames.{is_whole, body_of}
-use Rattle.frames.specs.declared.Frame.TheVariants.{Whole, Cut}
+use Rattle.frames.specs.Code.{frame}
+use Rattle.frames.specs.declared.Frame.{Frame}
 use Rattle.frames.proofs.FrameAt.{whole_at, cut_at, size_whole, size_cut}
 use Rattle.lines.specs.Text.{longest_line}
 use Rattle.records.specs.declared.Asked.{Asked}
@@ -20,7 +22,7 @@ use Rattle.records.proofs.Texts.{alone_short}
 use Rattle.records.proofs.Empty.{empty_text}
 use Rattle.listings.specs.Lines.{cut_line, front_line}
 use Rattle.listings.specs.Code.{stands_at, front_of, size_of, all_of}
-use Rattle.listings.proofs.LineLaws.{frame_some, frame_within, lines_none, lines_some, front_most}
+use Rattle.listings.proofs.LineLaws.{frame_within, lines_none, lines_some, front_most}
 
 pub front_whole : (asked : Asked) (xs : List ℕ) → is_whole xs ≡ true → front_line asked xs ≡ record_line asked (body_of xs)
 unfolding front_line
@@ -30,11 +32,7 @@ pub front_cut : (asked : Asked) (xs : List ℕ) → is_whole xs ≡ false → fr
 unfolding front_line
 front_cut asked xs e = rw e
 
--- alone, or a frame: some bytes, and no more than there are
-pub size_some : (alone : Bool) (xs : List ℕ) → 0 < length xs → 0 < size_of alone xs
-size_some true xs h = h
-size_some false xs h = frame_some xs h
-
+-- alone, or a frame: no more bytes than there are
 pub size_within : (alone : Bool) (xs : List ℕ) → size_of alone xs ≤ length xs
 size_within true xs = omega arith
 size_within false xs = frame_within xs
@@ -65,11 +63,12 @@ pub record WholeOf (alone : Bool) (asked : Asked) (xs : List ℕ) (at start end 
   pub text : text_of alone asked (take (end - start) (drop start xs)) ≡ front_of alone asked (drop at xs)
   pub answer : alone ≡ true → answer_of (refusals asked (take (end - start) (drop start xs))) ≡ answer_of (refusals asked (drop at xs))
 
-pub whole_of : (alone : Bool) (asked : Asked) (xs : List ℕ) (at : ℕ) {start end : ℕ} → at ≤ length xs → stands_at alone xs at ≡ Whole start end → WholeOf alone asked xs at start end
+pub whole_of : (alone : Bool) (asked : Asked) (xs : List ℕ) (at : ℕ) {start end : ℕ} → at ≤ length xs → stands_at alone xs at ≡ Some (frame start end) → WholeOf alone asked xs at start end
 unfolding front_of text_of
 whole_of true asked xs at {start} {end} placed e =
-    let from : start ≡ at = cc in
-    let to : end ≡ length xs = cc in
+    let found : frame at (length xs) ≡ frame start end = cc in
+    let from : start ≡ at = sym (ap (λ (f : Frame). f.start) found) in
+    let to : end ≡ length xs = sym (ap (λ (f : Frame). f.end) found) in
     let all : take (end - start) (drop start xs) ≡ drop at xs =
     rw (from, to, ← (length-drop at xs)) (take-length (drop at xs)) in
     record {
@@ -95,7 +94,7 @@ pub record CutOf (alone : Bool) (asked : Asked) (xs : List ℕ) (at : ℕ) : Typ
   pub to : length xs ≡ at + size_of alone (drop at xs)
   pub text : cut_line ≡ front_of alone asked (drop at xs)
 
-pub cut_of : (alone : Bool) (asked : Asked) (xs : List ℕ) (at : ℕ) → at ≤ length xs → stands_at alone xs at ≡ Cut → CutOf alone asked xs at
+pub cut_of : (alone : Bool) (asked : Asked) (xs : List ℕ) (at : ℕ) → at ≤ length xs → stands_at alone xs at ≡ None → CutOf alone asked xs at
 unfolding front_of
 cut_of true asked xs at placed e = absurd (let z : ◌≡◌ {A = ℕ} 0 1 = cc in omega arith)
 cut_of false asked xs at placed e =

@@ -1,5 +1,6 @@
 -- What a listing comes to, by its mode, its size, its version byte and the room.
 -- Assumes nothing.
+use Rattle.std.specs.Prelude.{Err}
 use mathlib.Core.Path.{◌≡◌, refl}
 use mathlib.Core.Bool.{true, false}
 use mathlib.Core.List.{List, [], ◌∷◌}
@@ -10,6 +11,8 @@ use borrow.Author.Tests.{lt-ltb, le-ltb}
 use Rattle.frames.specs.Frames.{known_version}
 use Rattle.frames.specs.Numbers.{byte}
 use Rattle.answers.specs.Outcomes.{Gives}
+use Rattle.answers.specs.declared.Reason.TheVariants.{Mode, Length}
+use Rattle.answers.specs.declared.Refused.TheVariants.{For}
 use Rattle.answers.specs.Code.{text_outcome}
 use Rattle.records.specs.declared.Asked.{Asked}
 use Rattle.records.specs.Records.{in_version}
@@ -19,13 +22,13 @@ use Rattle.listings.specs.Listings.{size_limit, listing_refusals, listing_outcom
 
 -- a listing by its mode and its size
 module _ (asked : Asked) (xs buf : List ℕ) where
-  pub listing-mode : 2 < asked.mode → Gives (listing_outcome asked xs buf) (record { number = 1; length = 0 }) buf
+  pub listing-mode : 2 < asked.mode → Gives (listing_outcome asked xs buf) (Err (For Mode)) buf
   unfolding listing_outcome listing_refusals
-  listing-mode h = gives_refused (listing_text asked xs) buf (rw (lt-ltb 2 asked.mode h)) (omega arith) (λ e. omega (arith, e))
+  listing-mode h = gives_refused (listing_text asked xs) buf (rw (lt-ltb 2 asked.mode h))
 
-  pub listing-length : asked.mode ≤ 2 → size_limit < length xs → Gives (listing_outcome asked xs buf) (record { number = 2; length = 0 }) buf
+  pub listing-length : asked.mode ≤ 2 → size_limit < length xs → Gives (listing_outcome asked xs buf) (Err (For Length)) buf
   unfolding listing_outcome listing_refusals
-  listing-length m h = gives_refused (listing_text asked xs) buf (rw (le-ltb 2 asked.mode m, lt-ltb size_limit (length xs) h)) (omega arith) (λ e. omega (arith, e))
+  listing-length m h = gives_refused (listing_text asked xs) buf (rw (le-ltb 2 asked.mode m, lt-ltb size_limit (length xs) h))
 
   -- else it is its text's
   pub listing_text_lem : {t : List ℕ} → asked.mode ≤ 2 → length xs ≤ size_limit → listing_text asked xs ≡ t → text_outcome t buf ≡ listing_outcome asked xs buf

@@ -1,5 +1,6 @@
 -- The loop over the frames of a listing, or over a body alone: what is left of the text at each place.
 -- Assumes nothing.
+use Rattle.std.specs.Prelude.{Option}
 use mathlib.Core.Path.{◌≡◌, refl, sym, ap, ◌∙◌}
 use mathlib.Core.Bool.{Bool, true, false}
 use mathlib.Core.List.{List, [], ◌++◌}
@@ -11,7 +12,9 @@ use Rattle.text.specs.Write.{write}
 use Rattle.text.specs.Code.{Room, Put}
 use Rattle.text.proofs.Writing.{write_none, write-write}
 use Rattle.text.proofs.Putting.{put_length}
+use Rattle.answers.specs.Reasons.{answer_as}
 use Rattle.answers.specs.Refusals.{answer_of}
+use Rattle.answers.specs.declared.Reason.{Reason}
 use Rattle.lines.specs.Text.{longest_line}
 use Rattle.records.specs.declared.Asked.{Asked}
 use Rattle.records.specs.Records.{refusals}
@@ -21,9 +24,9 @@ use Rattle.listings.specs.Lines.{lines_of}
 use Rattle.listings.specs.Listings.{size_limit}
 use Rattle.listings.specs.declared.Next.{Next}
 use Rattle.listings.specs.declared.Walked.{Walked}
-use Rattle.listings.specs.Code.{front_of, size_of, all_of, start_of, whole_text, place_of, Stepped, Walkable, Walks}
+use Rattle.listings.specs.Code.{front_of, size_of, all_of, whole_text, place_of, Stepped, Walkable, Walks}
 use Rattle.listings.proofs.LineLaws.{lines_short}
-use Rattle.listings.proofs.Fronts.{size_some, size_within, front_of_most, all_none, all_some}
+use Rattle.listings.proofs.Fronts.{size_within, front_of_most, all_none, all_some}
 
 module _ (alone : Bool) (asked : Asked) (xs : List ℕ) where
   -- the text from a place on
@@ -38,12 +41,9 @@ module _ (alone : Bool) (asked : Asked) (xs : List ℕ) where
     pub all_next : all_at at ≡ front_of alone asked (drop at xs) ++ all_at (at + size_of alone (drop at xs))
     all_next = all_some alone asked (drop at xs) there ∙ rw (drop-drop (size_of alone (drop at xs)) at xs)
 
-    -- the place after is within the bytes, and further on
+    -- the place after is within the bytes
     pub next_within : at + size_of alone (drop at xs) ≤ length xs
     next_within = omega (arith, size_within alone (drop at xs), length-drop at xs)
-
-    pub next_further : at < at + size_of alone (drop at xs)
-    next_further = omega (arith, size_some alone (drop at xs) there)
 
   -- at the end none is left
   pub all_end : (at : ℕ) → length xs ≤ at → at ≤ length xs → all_at at ≡ []
@@ -51,42 +51,17 @@ module _ (alone : Bool) (asked : Asked) (xs : List ℕ) where
       let end : at ≡ length xs = omega arith in
       ap (all_of alone asked) (ap (λ (n : ℕ). drop n xs) end ∙ drop-length xs) ∙ all_none alone asked
 
-  start_within : (b : Bool) → 0 < length xs → start_of b ≤ length xs
-  start_within true h = omega arith
-  start_within false h = h
-
-  start_alone : (b : Bool) → b ≡ true → start_of b ≡ 0
-  start_alone true e = refl
-  start_alone false e = cc
-
--- the first text belongs at the start, aside or not
-pub first_place : (aside : Bool) → 0 ≡ place_of aside 0
-first_place true = refl
-first_place false = refl
-
 -- the text from `at` on is all that is left, after `total` bytes of it; where nothing is put aside it belongs at that place. Alone, the
 -- one place is the first, and its answer is known after it.
-pub record Walking (alone aside : Bool) (asked : Asked) (xs before : List ℕ) (at total number : ℕ) (text : List ℕ) : Type 0 where
+pub record Walking (alone aside : Bool) (asked : Asked) (xs before : List ℕ) (at total : ℕ) (refused : Option Reason) (text : List ℕ) : Type 0 where
   pub placed : at ≤ length xs
   pub left : total + length (all_at alone asked xs at) ≡ length (whole_text alone asked xs)
   pub same : length text ≡ length before
   pub rest : aside ≡ false → write text total (all_at alone asked xs at) ≡ write before 0 (whole_text alone asked xs)
   pub fresh : alone ≡ true → at < length xs → at ≡ 0
-  pub answer : alone ≡ true → length xs ≤ at → number ≡ answer_of (refusals asked xs)
+  pub answer : alone ≡ true → length xs ≤ at → answer_as refused ≡ answer_of (refusals asked xs)
 
--- where it begins
-pub walking : (alone aside : Bool) (asked : Asked) (xs text : List ℕ) {at : ℕ} → 0 < length xs → at ≡ start_of alone → Walking alone aside asked xs text at 0 0 text
-walking alone aside asked xs text {at} some e =
-    rw e (record {
-      placed = start_within alone asked xs alone some;
-      left = omega arith;
-      same = refl;
-      rest = λ _. refl;
-      fresh = λ q h. start_alone alone asked xs alone q;
-      answer = λ q h. absurd (omega (arith, some, h, start_alone alone asked xs alone q));
-    })
-
-module _ {alone aside : Bool} {asked : Asked} {xs before : List ℕ} {at total number : ℕ} {text : List ℕ} (w : Walking alone aside asked xs before at total number text) (room : Walkable alone aside asked xs before) (h : at < length xs) where
+module _ {alone aside : Bool} {asked : Asked} {xs before : List ℕ} {at total : ℕ} {refused : Option Reason} {text : List ℕ} (w : Walking alone aside asked xs before at total refused text) (room : Walkable alone aside asked xs before) (h : at < length xs) where
   abbrev front : List ℕ
   front = front_of alone asked (drop at xs)
 
@@ -113,14 +88,8 @@ module _ {alone aside : Bool} {asked : Asked} {xs before : List ℕ} {at total n
     pub front_length : next.out - place ≡ length front
     front_length = omega (arith, s.put.next)
 
-    pub front-after : place ≤ next.out
-    front-after = omega (arith, s.put.next)
-
     pub total-number : total + (next.out - place) < 2 ^ 64
     total-number = omega (arith, front_length, w.left, parts, room.number)
-
-    pub step_further : at < next.at
-    step_further = omega (arith, s.place, next_further alone asked xs at h)
 
     pub step_within : next.at ≤ length xs
     step_within = omega (arith, s.place, next_within alone asked xs at h)
@@ -129,7 +98,7 @@ module _ {alone aside : Bool} {asked : Asked} {xs before : List ℕ} {at total n
     step_same = put_length (front-room e) s.put ∙ w.same
 
     -- one step further
-    pub walked : {total' : ℕ} → total' ≡ total + (next.out - place) → Walking alone aside asked xs before next.at total' next.number text'
+    pub walked : {total' : ℕ} → total' ≡ total + (next.out - place) → Walking alone aside asked xs before next.at total' next.refused text'
     walked {total'} t =
         let more : total' ≡ total + length front = omega (arith, t, front_length) in
         record {
@@ -148,8 +117,8 @@ module _ {alone aside : Bool} {asked : Asked} {xs before : List ℕ} {at total n
         ends q z = omega (arith, s.place, z, ap (λ (b : Bool). size_of b (drop at xs)) q, length-drop at xs)
 
 -- where it ends, it went over all
-pub walked_through : {alone aside : Bool} {asked : Asked} {xs before : List ℕ} {at total number : ℕ} {text : List ℕ} → Walking alone aside asked xs before at total number text → length xs ≤ at → Walks alone aside asked xs before (record { number = number; total = total }) text
-walked_through {alone} {aside} {asked} {xs} {before} {at} {total} {number} {text} w h =
+pub walked_through : {alone aside : Bool} {asked : Asked} {xs before : List ℕ} {at total : ℕ} {refused : Option Reason} {text : List ℕ} → Walking alone aside asked xs before at total refused text → length xs ≤ at → Walks alone aside asked xs before (record { refused = refused; total = total }) text
+walked_through {alone} {aside} {asked} {xs} {before} {at} {total} {refused} {text} w h =
     let none = all_end alone asked xs at h w.placed in
     record {
       total = omega (arith, w.left, ap length none);
@@ -186,13 +155,19 @@ alone_fits asked xs text h =
 pub lines_put : {asked : Asked} {xs before : List ℕ} {r : Walked} {after : List ℕ} → Walks false false asked xs before r after → Put before 0 (lines_of asked (drop 1 xs)) r.total after
 lines_put {asked} {xs} w = rw (← (whole-lines asked xs)) (record { next = omega (arith, w.total); text = w.put refl })
 
-pub alone_put : {asked : Asked} {xs before : List ℕ} {r : Walked} {after : List ℕ} → Walks true false asked xs before r after → Put before 0 (text_of true asked xs) r.total after
-alone_put {asked} {xs} w = rw (← (whole_alone asked xs)) (record { next = omega (arith, w.total); text = w.put refl })
+-- of a body alone, whose walk came to this answer and this length
+module _ {asked : Asked} {xs before : List ℕ} {r : Walked} {after : List ℕ} (w : Walks true false asked xs before r after) where
+  pub alone_answer : {refused : Option Reason} → r.refused ≡ refused → answer_as refused ≡ answer_of (refusals asked xs)
+  alone_answer is = ap answer_as (sym is) ∙ w.answer refl
 
-pub alone_within : {asked : Asked} {xs before : List ℕ} {r : Walked} {after : List ℕ} → longest_line ≤ length before → Walks true false asked xs before r after → r.total ≤ length after
-alone_within {asked} {xs} {before} h w =
-    let room : Room before 0 (text_of true asked xs) = record { fits = omega (arith, h, alone_short asked xs) } in
-    omega (arith, room.fits, (alone_put w).next, put_length room (alone_put w))
+  module _ {n : ℕ} (is : n ≡ r.total) where
+    pub alone_put : Put before 0 (text_of true asked xs) n after
+    alone_put = rw (← (whole_alone asked xs)) (record { next = omega (arith, is, w.total); text = w.put refl })
+
+    pub alone_within : longest_line ≤ length before → n ≤ length after
+    alone_within h =
+        let room : Room before 0 (text_of true asked xs) = record { fits = omega (arith, h, alone_short asked xs) } in
+        omega (arith, room.fits, alone_put.next, put_length room alone_put)
 
 pub lines-total : {aside : Bool} {asked : Asked} {xs before : List ℕ} {r : Walked} {after : List ℕ} → Walks false aside asked xs before r after → r.total ≡ length (lines_of asked (drop 1 xs))
 lines-total {asked = asked} {xs = xs} w = w.total ∙ ap length (whole-lines asked xs)

@@ -16,13 +16,14 @@ use Rattle.streams.proofs.Stepping.{refused_once}
 use Rattle.streams.proofs.Streaming.{part_cut, bytes_drop}
 use Rattle.located.specs.declared.Stage.{Stage}
 use Rattle.located.specs.declared.Stage.TheVariants.{Version, Frames, Done}
-use Rattle.located.specs.declared.Passed.{Passed}
+use Rattle.streams.specs.declared.Passed.{Passed}
 use Rattle.located.specs.Located.{wrapped}
 use Rattle.located.specs.Pass.{Goes, Unused, next_at, Passes}
 use Rattle.located.specs.Pass.Follows.{rests}
 use Rattle.located.specs.Runs.{Runs}
 use Rattle.located.specs.Runs.Runs.{more as run_more, none as run_none, stop}
-use Rattle.located.proofs.Going.{goes_none, goes_then, goes_known, goes_unknown, goes_whole}
+use Rattle.located.specs.Ways.{goes_none, goes_then}
+use Rattle.located.proofs.Going.{goes_known, goes_unknown, goes_whole}
 
 -- a way on which all steps are taken that these bytes are enough for
 record Way (asked : Asked) (stage : Stage) (held : List ℕ) : Type 0 where
@@ -99,7 +100,7 @@ module _ {asked : Asked} where
   way Done held small = way_none Done held tt
 
   -- the pass that goes it
-  abbrev passed : {stage : Stage} {held : List ℕ} → Bool → Way asked stage held → Passed
+  abbrev passed : {stage : Stage} {held : List ℕ} → Bool → Way asked stage held → Passed Stage
   passed {held = held} ended w =
       record {
         stage = w.now;
@@ -155,7 +156,7 @@ pub record Ran (asked : Asked) (ended : Bool) (stage : Stage) (held : List ℕ) 
   pub runs : Runs asked ended stage held reads written records refused used last
 
 module _ {asked : Asked} where
-  stops : {ended : Bool} {stage : Stage} {held : List ℕ} {reads : List (List ℕ)} {r : Passed} {after : List ℕ} → Passes asked stage held ended r after → 2 ≤ apart r.next → Ran asked ended stage held reads
+  stops : {ended : Bool} {stage : Stage} {held : List ℕ} {reads : List (List ℕ)} {r : Passed Stage} {after : List ℕ} → Passes asked stage held ended r after → 2 ≤ apart r.next → Ran asked ended stage held reads
   stops p h =
       record {
         written = _;

@@ -1,8 +1,11 @@
 -- The way from one stage to another: none, one after the other, and that of each step.
 -- Assumes nothing.
-use Rattle.std.proofs.Common.{◌≡◌, ℕ, ◌+◌, ◌≤◌, true, false, List, [], ◌∷◌, ◌++◌, length, take, drop, sym, refl, ap, ◌∙◌, subst, ap₂, append_assoc, arith, lit≤, length-append}
+use Rattle.std.proofs.Common.{◌≡◌, ℕ, ◌+◌, ◌≤◌, true, false, List, [], ◌∷◌, ◌++◌, length, take, drop, refl, ap, ◌∙◌, subst, ap₂, arith, lit≤, length-append}
 use Rattle.text.specs.Code.{Put}
 use Rattle.text.proofs.Putting.{put_none}
+use Rattle.std.specs.Prelude.{Option}
+use Rattle.answers.specs.declared.Reason.{Reason}
+use Rattle.answers.specs.Reasons.{answer_as}
 use Rattle.answers.specs.Refusals.{answer_of}
 use Rattle.frames.specs.Numbers.{byte, word}
 use Rattle.frames.specs.Frames.{body_length, body_of, known_version}
@@ -17,28 +20,13 @@ use Rattle.streams.proofs.Stepping.{refused_once}
 use Rattle.streams.proofs.Streaming.{length_stays, body_stays, after_stays}
 use Rattle.located.specs.declared.Stage.{Stage}
 use Rattle.located.specs.declared.Stage.TheVariants.{Version, Frames, Done}
-use Rattle.located.specs.declared.Step.{Step}
+use Rattle.streams.specs.declared.Step.{Step}
 use Rattle.located.specs.Parts.{record_part, longest_part}
 use Rattle.located.specs.Located.{wrapped, parts_of, located_text}
 use Rattle.located.specs.Pass.{saying, counting, one, refused_one, end_of, Goes, Unused}
 use Rattle.located.specs.Code.{Says, Steps}
+use Rattle.located.specs.Ways.{goes_none}
 use Rattle.located.proofs.PartLaws.{parts_whole}
-
-pub goes_none : {asked : Asked} {stage : Stage} {held : List ℕ} → Goes asked stage held [] stage held 0 0
-goes_none = record { said = λ more. refl; frames = λ more. omega arith; refusals = λ more. omega arith; end = λ more. refl }
-
-pub goes_then : {asked : Asked} {stage : Stage} {held says : List ℕ} {now : Stage} {left : List ℕ} {a b : ℕ} {says' : List ℕ} {now' : Stage} {left' : List ℕ} {a' b' : ℕ} → Goes asked stage held says now left a b → Goes asked now left says' now' left' a' b' → Goes asked stage held (says ++ says') now' left' (a + a') (b + b')
-goes_then {asked} {says = says} {says' = says'} {now' = now'} {left' = left'} g h =
-    record {
-      said =
-          λ more.
-          g.said more
-          ∙ ap (λ (t : List ℕ). says ++ t) (h.said more)
-          ∙ sym (append_assoc says says' (saying asked now' (left' ++ more)));
-      frames = λ more. omega (arith, g.frames more, h.frames more);
-      refusals = λ more. omega (arith, g.refusals more, h.refusals more);
-      end = λ more. g.end more ∙ h.end more;
-    }
 
 -- a version byte that is known, and one that is not
 module _ (asked : Asked) {version : ℕ} where
@@ -112,15 +100,15 @@ steps_version {says = says} some goes short put =
     }
 
 -- a step over a whole frame, from what was put of its record
-pub steps_whole : (asked : Asked) (number offset version : ℕ) (xs : List ℕ) (k : ℕ) {told : Asked} {n a b answer refused : ℕ} {before : List ℕ} {out next : ℕ} {after : List ℕ} → told ≡ in_version version asked → n ≡ word xs 0 → 2 + n ≤ length xs → k ≡ n → a ≡ wrapped (number + 1) → b ≡ wrapped (offset + (2 + n)) → length (record_part told number offset (take k (drop 2 xs))) ≤ longest_part → Says told (take k (drop 2 xs)) (record_part told number offset (take k (drop 2 xs))) before out answer next after → refused ≡ refused_by answer → Steps asked (Frames number offset version) xs before out (record { stage = Frames a b version; used = 2 + n; out = next; records = 1; refused = refused }) after
-steps_whole asked number offset version xs k {told} {n} {a} {b} {answer} {refused} t e h same one_more further short said by =
+pub steps_whole : (asked : Asked) (number offset version : ℕ) (xs : List ℕ) (k : ℕ) {told : Asked} {n a b refused : ℕ} {why : Option Reason} {before : List ℕ} {out next : ℕ} {after : List ℕ} → told ≡ in_version version asked → n ≡ word xs 0 → 2 + n ≤ length xs → k ≡ n → a ≡ wrapped (number + 1) → b ≡ wrapped (offset + (2 + n)) → length (record_part told number offset (take k (drop 2 xs))) ≤ longest_part → Says told (take k (drop 2 xs)) (record_part told number offset (take k (drop 2 xs))) before out why next after → refused ≡ refused_by (answer_as why) → Steps asked (Frames number offset version) xs before out (record { stage = Frames a b version; used = 2 + n; out = next; records = 1; refused = refused }) after
+steps_whole asked number offset version xs k {told} {n} {a} {b} {refused} {why} t e h same one_more further short said by =
     record {
       says = record_part told number offset (take k (drop 2 xs));
       put = said.put;
       goes = goes;
       uses = h;
       short = short;
-      refuses = rw by (refused_once answer);
+      refuses = rw by (refused_once (answer_as why));
       counts = omega arith;
       none = λ z. absurd (omega (arith, z));
     }
@@ -129,5 +117,5 @@ steps_whole asked number offset version xs k {told} {n} {a} {b} {answer} {refuse
     goes = rw (same, one_more, further, by, said.answer, same, t, e) (goes_whole asked number offset version xs (rw (← e) h))
 
 -- a step under another name of its stage
-pub steps_at : {asked : Asked} {stage stage' : Stage} {held before : List ℕ} {out : ℕ} {r : Step} {after : List ℕ} → stage ≡ stage' → Steps asked stage held before out r after → Steps asked stage' held before out r after
+pub steps_at : {asked : Asked} {stage stage' : Stage} {held before : List ℕ} {out : ℕ} {r : Step Stage} {after : List ℕ} → stage ≡ stage' → Steps asked stage held before out r after → Steps asked stage' held before out r after
 steps_at {asked} {held = held} {before} {out} {r} {after} e s = subst (λ (t : Stage). Steps asked t held before out r after) e s

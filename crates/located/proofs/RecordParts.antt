@@ -6,6 +6,9 @@ use Rattle.text.specs.Words.{bytes}
 use Rattle.text.proofs.Choosing.{cond_by}
 use Rattle.numerals.specs.Decimals.{decimal}
 use Rattle.numerals.proofs.Tens.{decimal_most}
+use Rattle.answers.specs.declared.Reason.{Reason}
+use Rattle.answers.specs.Reasons.{number_of}
+use Rattle.answers.proofs.Numbers.{number_some}
 use Rattle.answers.specs.Refusals.{answer_of}
 use Rattle.answers.specs.Lines.{newline, refused_text, refused_line}
 use Rattle.answers.proofs.Lines.{refused_text_most}
@@ -27,6 +30,9 @@ refusal_none e = rw e
 pub refusal_some : {n : ℕ} → (n ≡ 0 → ⊥) → refusal_text n ≡ refused_text n
 unfolding refusal_text
 refusal_some {n} some = rw (ne_eqb n 0 some)
+
+pub refusal_because : (reason : Reason) → refusal_text (number_of reason) ≡ refused_text (number_of reason)
+refusal_because reason = refusal_some (λ none. absurd (omega (arith, number_some reason, none)))
 
 module _ (asked : Asked) (body : List ℕ) where
   -- the line is the record's text alone, or the refusal's

@@ -15,7 +15,7 @@ use Rattle.streams.proofs.Counting.{sum-part}
 use Rattle.streams.proofs.Ending.{tail_part, end_by}
 use Rattle.located.specs.declared.Stage.{Stage}
 use Rattle.located.specs.declared.Stage.TheVariants.{Version, Frames, Done}
-use Rattle.located.specs.declared.Passed.{Passed}
+use Rattle.streams.specs.declared.Passed.{Passed}
 use Rattle.located.specs.Located.{located_text}
 use Rattle.located.specs.Pass.{saying, counting, one, refused_one, end_of, Unused, next_at, Follows, Passes}
 use Rattle.located.specs.Pass.Follows.{full as is_full, rests}
@@ -78,7 +78,7 @@ rest_told asked false Done held reads {next} none go_on by unused =
     }
 
 -- a pass, and what comes after it
-module _ {asked : Asked} {stage : Stage} {held : List ℕ} {ended : Bool} {r : Passed} {after : List ℕ} (p : Passes asked stage held ended r after) (more : List ℕ) where
+module _ {asked : Asked} {stage : Stage} {held : List ℕ} {ended : Bool} {r : Passed Stage} {after : List ℕ} (p : Passes asked stage held ended r after) (more : List ℕ) where
   told_on : {written text : List ℕ} {records refused used : ℕ} {last : Next} → text ≡ p.says ++ written → Told asked r.stage (drop r.used held ++ more) written records refused used last → Told asked stage (held ++ more) text (r.records + records) (r.refused + refused) (r.used + used) last
   told_on {written} e t =
       let same = p.goes.end more in

@@ -2,5 +2,6 @@
 pub mod Parts
 pub mod Located
 pub mod Pass
+pub mod Ways
 pub mod Runs
 pub mod Code

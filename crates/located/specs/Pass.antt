@@ -12,7 +12,7 @@ use Rattle.streams.specs.declared.Next.{Next}
 use Rattle.streams.specs.declared.Next.TheVariants.{Full, Read, Whole, Cut, Unknown}
 use Rattle.located.specs.declared.Stage.{Stage}
 use Rattle.located.specs.declared.Stage.TheVariants.{Version, Frames, Done}
-use Rattle.located.specs.declared.Passed.{Passed}
+use Rattle.streams.specs.declared.Passed.{Passed}
 use Rattle.located.specs.Located.{parts_of, located_text}
 
 -- what is still to be said from a stage on, if all that is to come is xs
@@ -71,7 +71,7 @@ pub data Follows (ended : Bool) (stage : Stage) (held : List ℕ) (used : ℕ) (
 
 -- what a pass promises: what is said on its way, and the last line, stands at the start of the text; what is held then is what it did
 -- not use
-pub record Passes (asked : Asked) (stage : Stage) (held : List ℕ) (ended : Bool) (r : Passed) (after : List ℕ) : Type 0 where
+pub record Passes (asked : Asked) (stage : Stage) (held : List ℕ) (ended : Bool) (r : Passed Stage) (after : List ℕ) : Type 0 where
   pub says : List ℕ
   pub goes : Goes asked stage held says r.stage (drop r.used held) r.records r.refused
   pub text : take r.out after ≡ says ++ last_line r.next

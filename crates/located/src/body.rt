@@ -47,14 +47,12 @@ fn put_pairs(text: &mut [u8], at: usize, body: &[u8]) -> usize
     requires { Room text.old at (pairs per_line body.now) }
     ensures { Put text.old at (pairs per_line body.now) result text.new }
 {
-    let mut i = 0;
     let mut out = at;
     let mut room = PER_LINE;
-    while i < body.len() {
-        let row = put_on_line(text, out, room, body[i]);
+    for b in body {
+        let row = put_on_line(text, out, room, *b);
         out = row.out;
         room = row.room;
-        i += 1;
     }
     out
 }

@@ -1,19 +1,17 @@
 // One step: the version byte, or a whole frame.
 ghost use Rattle.std.specs.Prelude.{◌≡◌, ◌+◌, ◌≤◌, length};
-ghost use Rattle.names.specs.Opcodes.{MnemonicTable, ArmTable};
-ghost use Rattle.names.specs.Registers.{RegisterTable};
-ghost use Rattle.names.specs.Labels.{LabelTable};
 ghost use Rattle.located.specs.Parts.{longest_part};
 ghost use Rattle.located.specs.Code.{Steps};
 
+use crate::Stage;
 use crate::part::put_part;
-use crate::{Stage, Step};
-use names::{labels, opcodes, registers};
+use names::Tables;
 use records::Asked;
 use records::judge::in_version;
+use streams::Step;
 use streams::stream::refused_by;
 
-fn step_version(input: &[u8], asked: Asked, text: &mut [u8], out: usize) -> Step
+fn step_version(input: &[u8], asked: Asked, text: &mut [u8], out: usize) -> Step<Stage>
     requires { out + longest_part ≤ length text.old }
     ensures { Steps asked Stage.Version input.now text.old out result text.new }
 {
@@ -51,13 +49,7 @@ fn step_version(input: &[u8], asked: Asked, text: &mut [u8], out: usize) -> Step
 }
 
 fn step_frame(
-    name_letters: &opcodes::Letters,
-    name_starts: &opcodes::Starts,
-    register_letters: &registers::Letters,
-    register_starts: &registers::Starts,
-    label_letters: &labels::Letters,
-    label_starts: &labels::Starts,
-    arms: &opcodes::Arms,
+    tables: &Tables,
     number: u64,
     offset: u64,
     version: u32,
@@ -65,11 +57,7 @@ fn step_frame(
     asked: Asked,
     text: &mut [u8],
     out: usize,
-) -> Step
-    requires mnemonic_table { MnemonicTable name_letters.now name_starts.now }
-    requires register_table { RegisterTable register_letters.now register_starts.now }
-    requires label_table { LabelTable label_letters.now label_starts.now }
-    requires arm_table { ArmTable arms.now }
+) -> Step<Stage>
     requires longest_part_in_bounds { out + longest_part ≤ length text.old }
     ensures { Steps asked (Stage.Frames number offset version) input.now text.old out result text.new }
 {
@@ -101,13 +89,7 @@ fn step_frame(
         };
     }
     let placed = put_part(
-        name_letters,
-        name_starts,
-        register_letters,
-        register_starts,
-        label_letters,
-        label_starts,
-        arms,
+        tables,
         number,
         offset,
         &input[2..end],
@@ -117,35 +99,25 @@ fn step_frame(
     );
     Step {
         stage: Stage::Frames {
-            number: std::num::wrapping_add_u64(number, 1),
-            offset: std::num::wrapping_add_u64(offset, end as u64),
+            number: number.wrapping_add(1),
+            offset: offset.wrapping_add(end as u64),
             version,
         },
         used: end,
         out: placed.out,
         records: 1,
-        refused: refused_by(placed.number),
+        refused: refused_by(placed.refused),
     }
 }
 
 pub fn step(
-    name_letters: &opcodes::Letters,
-    name_starts: &opcodes::Starts,
-    register_letters: &registers::Letters,
-    register_starts: &registers::Starts,
-    label_letters: &labels::Letters,
-    label_starts: &labels::Starts,
-    arms: &opcodes::Arms,
+    tables: &Tables,
     stage: Stage,
     input: &[u8],
     asked: Asked,
     text: &mut [u8],
     out: usize,
-) -> Step
-    requires mnemonic_table { MnemonicTable name_letters.now name_starts.now }
-    requires register_table { RegisterTable register_letters.now register_starts.now }
-    requires label_table { LabelTable label_letters.now label_starts.now }
-    requires arm_table { ArmTable arms.now }
+) -> Step<Stage>
     requires longest_part_in_bounds { out + longest_part ≤ length text.old }
     ensures { Steps asked stage input.now text.old out result text.new }
 {
@@ -155,22 +127,7 @@ pub fn step(
             number,
             offset,
             version,
-        } => step_frame(
-            name_letters,
-            name_starts,
-            register_letters,
-            register_starts,
-            label_letters,
-            label_starts,
-            arms,
-            number,
-            offset,
-            version,
-            input,
-            asked,
-            text,
-            out,
-        ),
+        } => step_frame(tables, number, offset, version, input, asked, text, out),
         Stage::Done => Step {
             stage: Stage::Done,
             used: 0,

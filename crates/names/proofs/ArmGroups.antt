@@ -3,22 +3,19 @@
 -- Assumes nothing.
 use mathlib.Core.Path.{◌≡◌, refl, ap, ◌∙◌}
 use mathlib.Core.Logic.{inl, inr}
-use mathlib.Core.Bool.{Bool, true, false, cond, beq, not, ◌&&◌}
-use mathlib.Core.List.{List, [], ◌∷◌, ◌++◌, map}
+use mathlib.Core.Bool.{Bool, true, false, cond, beq, ◌&&◌}
+use mathlib.Core.List.{List, [], ◌∷◌, map}
 use Prim.Native.Nat.{ℕ, zero, suc}
-use lib.Dec.{T, T_not, eqb}
-use borrow.Author.Tests.{eq-eqb}
+use lib.Dec.{T}
 use store.Enc.{and_l, and_r}
 use types.Run.{OneOf}
 use native.Mathlib.Omega.{arith}
 use denote.RattleType.{RattleType}
 use denote.Enum.Enum.{Sum, tag as tag_in}
 use denote.Enum.Declared.{tag_of}
-use Rattle.text.specs.Words.{every}
-use Rattle.text.proofs.Tables.{both_left, both_right}
 use Rattle.names.specs.contracts.Arm.{the_type}
-use Rattle.names.proofs.ArmNumbers.{arm_at}
 use Rattle.names.specs.declared.Arm.{Arm}
+use Rattle.names.specs.declared.Arm.TheVariants as arm
 use Rattle.names.specs.Among.{is_one_of}
 
 -- the place of an arm in the declaration, which the code goes by
@@ -40,10 +37,16 @@ same_tag (suc n) (inr x) (inr y) e = ap inr (same_tag n x y (omega arith))
 by_tag : (x y : Arm) → tag x ≡ tag y → x ≡ y
 by_tag x y e = the_type.to_one x y (same_tag 42 (the_type.to x) (the_type.to y) e)
 
--- the first k arms
-abbrev pub first_arms : ℕ → List Arm
-first_arms zero = []
-first_arms (suc k) = first_arms k ++ (arm_at k ∷ [])
+-- all arms
+abbrev pub all_arms : List Arm
+all_arms =
+    arm.General ∷ arm.Qword ∷ arm.Mmword ∷ arm.Jmpf ∷ arm.Callf ∷ arm.Lds ∷
+    arm.Movs ∷ arm.Cmps ∷ arm.Singles ∷ arm.Doubles ∷ arm.Branch ∷ arm.Call ∷
+    arm.Xbegin ∷ arm.Feni ∷ arm.Fdisi ∷ arm.Fsetpm ∷ arm.Hreset ∷ arm.Lsl ∷
+    arm.Prefetch ∷ arm.Sgdt ∷ arm.Lss ∷ arm.Nop ∷ arm.ScatterDword ∷ arm.ScatterQword ∷
+    arm.Monitor ∷ arm.Mwait ∷ arm.Invlpgb ∷ arm.Rdpru ∷ arm.Scas ∷ arm.Lods ∷
+    arm.Psmash ∷ arm.Pvalidate ∷ arm.Incssp ∷ arm.Wrss ∷ arm.Pblendvb ∷ arm.Lea ∷
+    arm.Pushf ∷ arm.Aam ∷ arm.Fcom ∷ arm.Fadd ∷ arm.Fbld ∷ arm.Fbstp ∷ []
 
 -- a list without the arms of another
 abbrev pub without : List Arm → List Arm → List Arm
@@ -52,7 +55,7 @@ without xs (y ∷ ys) = cond (is_one_of y xs) (without xs ys) (y ∷ without xs 
 
 -- the arms that are none of these: those of a `_`
 abbrev pub others : List Arm → List Arm
-others xs = without xs (first_arms 42)
+others xs = without xs all_arms
 
 -- a fact at each arm of a list
 abbrev pub Each : (Arm → Type 0) → List Arm → Type 0
@@ -90,12 +93,3 @@ pub of_group :
     OneOf (map tag xs) (tag arm) →
     f arm ≡ v
 of_group f v xs arm t o = at_group f v xs arm (each f v xs t) o
-
--- a tag that is none of some tags
-pub not_one_of : (n : ℕ) (ks : List ℕ) → T (every (λ (k : ℕ). not (eqb n k)) ks) → OneOf ks n → ⊥
-not_one_of n [] t o = o
-not_one_of n (k ∷ []) t e = T_not (eqb n k) (both_left (not (eqb n k)) true t) (rw (eq-eqb n k e) tt)
-not_one_of n (k ∷ (l ∷ ls)) t (inl e) =
-    T_not (eqb n k) (both_left (not (eqb n k)) (every (λ (k : ℕ). not (eqb n k)) (l ∷ ls)) t) (rw (eq-eqb n k e) tt)
-not_one_of n (k ∷ (l ∷ ls)) t (inr o) =
-    not_one_of n (l ∷ ls) (both_right (not (eqb n k)) (every (λ (k : ℕ). not (eqb n k)) (l ∷ ls)) t) o

@@ -1,5 +1,4 @@
 pub mod Rules
 pub mod Stems
 pub mod Letters
-pub mod ArmNumbers
 pub mod ArmGroups

@@ -37,12 +37,6 @@ stems_keep : map (λ (k : ℕ). named (4 + k)) (down (length stems - 4)) ≡ map
 unfolding registers register_name built
 stems_keep = refl
 
--- x, y and z before mm, by bank
-pub letters_side_by_side : (bank : ℕ) → 5 < bank → bank < 9 → (120 + (bank - 6)) ∷ bytes "mm" ≡ stem bank
-letters_side_by_side bank low high =
-    let place : 6 + (bank - 6) ≡ bank = omega arith in
-    agree_below (λ (k : ℕ). (120 + k) ∷ bytes "mm") (λ (k : ℕ). stem (6 + k)) 3 refl (bank - 6) (omega arith) ∙ ap stem place
-
 -- the name of each register of a bank that has a stem is stem, number and what closes
 pub register_built : (bank number : ℕ) → 4 ≤ bank → bank < length stems → number < 8 → register_name (8 * bank + number) ≡ built bank number
 register_built bank number low high h =
@@ -81,7 +75,3 @@ module _ (reg : ℕ) where
   pub byte-tabled : reg / 8 < 4 → register_name reg ≡ get_or tabled reg []
   unfolding register_name
   byte-tabled h = sym (get_or-take 32 registers reg [] (byte-below h))
-
-  pub byte_in_table : reg / 8 < 4 → reg < length tabled
-  unfolding registers
-  byte_in_table h = byte-below h

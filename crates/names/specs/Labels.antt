@@ -1,7 +1,7 @@
 -- The size labels.
 -- Assumes nothing.
 use Rattle.std.specs.Prelude.{List, [], ◌∷◌, ℕ, get_or}
-use Rattle.text.specs.Words.{bytes, Table}
+use Rattle.text.specs.Words.{bytes}
 
 -- "Labels: 1 byte, 2 word, 4 dword, 8 qword, 16 xmmword, 32 ymmword, 64 zmmword, then " ptr "", and those that document 000 names
 -- besides; the first is none
@@ -13,7 +13,3 @@ labels =
 -- a label by its place in that list; past it there is none
 unfoldable pub label_word : ℕ → List ℕ
 label_word k = get_or labels k []
-
--- the table as the code holds and lends it
-abbrev pub LabelTable : List ℕ → List ℕ → Type 0
-LabelTable letters starts = Table labels letters starts

@@ -1,8 +1,8 @@
 -- Document 01, "Opcode numbers": each opcode's name, and the arm of document 000 that prints it.
 -- Assumes nothing.
-use Rattle.std.specs.Prelude.{List, [], ◌∷◌, map, ◌≡◌, ℕ, get_or}
+use Rattle.std.specs.Prelude.{List, [], ◌∷◌, map, ℕ, get_or}
 use Prim.Native.String.{String}
-use Rattle.text.specs.Words.{bytes, Table}
+use Rattle.text.specs.Words.{bytes}
 use Rattle.names.specs.declared.Arm.{Arm}
 use Rattle.names.specs.declared.Arm.TheVariants.{
   General,
@@ -140,55 +140,3 @@ arms = map (λ (o : Opcode). o.arm) opcodes
 -- the arm of an opcode; a number that is no opcode has none, and no record with one is accepted
 unfoldable pub arm_of : ℕ → Arm
 arm_of opcode = get_or arms opcode General
-
--- an arm's number: its place among the arms, by which the code's table holds it
-abbrev pub number : Arm → ℕ
-number General = 0
-number Qword = 1
-number Mmword = 2
-number Jmpf = 3
-number Callf = 4
-number Lds = 5
-number Movs = 6
-number Cmps = 7
-number Singles = 8
-number Doubles = 9
-number Branch = 10
-number Call = 11
-number Xbegin = 12
-number Feni = 13
-number Fdisi = 14
-number Fsetpm = 15
-number Hreset = 16
-number Lsl = 17
-number Prefetch = 18
-number Sgdt = 19
-number Lss = 20
-number Nop = 21
-number ScatterDword = 22
-number ScatterQword = 23
-number Monitor = 24
-number Mwait = 25
-number Invlpgb = 26
-number Rdpru = 27
-number Scas = 28
-number Lods = 29
-number Psmash = 30
-number Pvalidate = 31
-number Incssp = 32
-number Wrss = 33
-number Pblendvb = 34
-number Lea = 35
-number Pushf = 36
-number Aam = 37
-number Fcom = 38
-number Fadd = 39
-number Fbld = 40
-number Fbstp = 41
-
--- the tables as the code holds and lends them: the names as one text with an offset for each, and each opcode's arm by its number
-abbrev pub MnemonicTable : List ℕ → List ℕ → Type 0
-MnemonicTable letters starts = Table mnemonics letters starts
-
-abbrev pub ArmTable : List ℕ → Type 0
-ArmTable table = table ≡ map number arms

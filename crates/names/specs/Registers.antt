@@ -1,7 +1,7 @@
 -- Register and segment names, by document 01's register bytes: "A register byte is 8 times bank plus number".
 -- Assumes nothing.
 use Rattle.std.specs.Prelude.{List, [], ◌∷◌, ◌++◌, ℕ, get_or, take}
-use Rattle.text.specs.Words.{bytes, Table}
+use Rattle.text.specs.Words.{bytes}
 
 -- bank 3
 abbrev pub bank3 : List (List ℕ)
@@ -29,10 +29,6 @@ register_name reg = get_or registers reg []
 -- the names that the code keeps as words of a table: those of the banks 0 to 3
 abbrev pub tabled : List (List ℕ)
 tabled = take 32 registers
-
--- that table as the code holds and lends it
-abbrev pub RegisterTable : List ℕ → List ℕ → Type 0
-RegisterTable letters starts = Table tabled letters starts
 
 -- "0 for none or 1 to 6 for es cs ss ds fs gs"
 unfoldable pub segments : List (List ℕ)

@@ -1,6 +1,6 @@
 // The words of a line: the opcodes' names, registers, segments and labels, each a constant table of one text with offsets; register
-// names that differ in a digit alone are built. All tables but the segments' are made once, above the loop over the records, and lent
-// from there: a constant is stored to the stack at each use.
+// names that differ in a digit alone are built. All tables but the segments' are made once, as one value above the loop over the
+// records, and lent from there: a constant is stored to the stack at each use.
 #![tactic(auto)]
 
 pub mod labels;
@@ -54,4 +54,24 @@ pub enum Arm {
     Fadd,
     Fbld,
     Fbstp,
+}
+
+// All that is lent. Each table says by its type that its words are the right ones.
+#[derive(Drop)]
+pub struct Tables {
+    pub mnemonics: opcodes::MnemonicTable,
+    pub registers: registers::RegisterTable,
+    pub labels: labels::LabelTable,
+    pub arms: opcodes::Arms,
+}
+
+impl Tables {
+    pub fn new() -> Self {
+        Tables {
+            mnemonics: opcodes::mnemonics(),
+            registers: registers::registers(),
+            labels: labels::labels(),
+            arms: opcodes::Arms::new(),
+        }
+    }
 }

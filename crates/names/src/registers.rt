@@ -1,52 +1,32 @@
 // The register names, by register byte. Those of the banks 0 to 3 are words of a table, which is lent. Those of a bank from 4 up differ
 // in a digit alone and are built: the stem of the bank, the number and, for st, what closes.
 ghost use Rattle.std.specs.Prelude.{◌≡◌, [], ◌∷◌, ◌++◌, ◌<◌};
-ghost use Rattle.text.specs.Code.{Room, Put, Stands, word_at};
-ghost use Rattle.text.specs.Words.{bytes, join, starts as starts_of};
-ghost use Rattle.names.specs.Registers.{tabled, register_name, RegisterTable};
+ghost use Rattle.text.specs.Code.{Room, Put};
+ghost use Rattle.text.specs.Words.{bytes};
+ghost use Rattle.names.specs.Registers.{tabled, register_name};
 ghost use Rattle.names.specs.Code.{stem as stem_of, digit};
 
-use text::words;
+use text::words::{Table, Words};
 
-pub type Letters = [u8; 68];
+// The names of the banks 0 to 3.
+#[derive(Drop)]
+pub struct RegisterWords;
 
-pub type Starts = [u16; 33];
-
-const LETTERS: Letters = *b"eaxecxedxebxespebpesiediaxcxdxbxspbpsidialcldlblahchdhbhescsssdsfsgs";
-
-const STARTS: Starts = [
-    0, 3, 6, 9, 12, 15, 18, 21, 24, 26, 28, 30, 32, 34, 36, 38, 40, 42, 44, 46, 48, 50, 52, 54, 56,
-    58, 60, 62, 64, 66, 68, 68, 68,
-];
-
-pub fn letters() -> Letters
-    ensures { result ≡ join tabled }
-{
-    LETTERS
+impl Words for RegisterWords {
+    ghost words = { tabled };
 }
 
-pub fn starts() -> Starts
-    ensures { result ≡ starts_of 0 tabled }
-{
-    STARTS
-}
+pub type RegisterTable = Table<RegisterWords, 68, 33>;
 
-// A word of the table: one of two or three letters right here, by two copies of two letters that may overlap, which saves a call; any
-// other by `put_word`.
-fn put_short(buf: &mut [u8], at: usize, letters: &[u8], starts: &[u16], k: usize) -> usize
-    requires stands { Stands letters.now starts.now k }
-    requires room { Room buf.old at (word_at letters.now starts.now k) }
-    ensures { Put buf.old at (word_at letters.now starts.now k) result buf.new }
-{
-    let from = starts[k] as usize;
-    let to = starts[k + 1] as usize;
-    let n = to - from;
-    if 2 <= n && n < 4 {
-        words::copy_2(buf, at, letters, from);
-        words::copy_2(buf, at + n - 2, letters, to - 2);
-        return at + n;
-    }
-    words::put_word(buf, at, letters, starts, k)
+#[tactic(auto, unfolding(crate::specs::Registers::registers))]
+pub fn registers() -> RegisterTable {
+    Table::new(
+        *b"eaxecxedxebxespebpesiediaxcxdxbxspbpsidialcldlblahchdhbhescsssdsfsgs",
+        [
+            0, 3, 6, 9, 12, 15, 18, 21, 24, 26, 28, 30, 32, 34, 36, 38, 40, 42, 44, 46, 48, 50, 52,
+            54, 56, 58, 60, 62, 64, 66, 68, 68, 68,
+        ],
+    )
 }
 
 // A stem and the number of the register.
@@ -56,7 +36,7 @@ fn put_numbered(buf: &mut [u8], at: usize, stem: &[u8], number: u8) -> usize
     ensures { Put buf.old at (stem.now ++ (digit number ∷ [])) result buf.new }
 {
     let next = text::put_bytes(buf, at, stem);
-    text::put_byte(buf, next, 48 + number)
+    text::put_byte(buf, next, b'0' + number)
 }
 
 // What stands before mm in xmm, ymm and zmm: x, y and z stand side by side, as the banks do. The three share all else, so that the
@@ -71,14 +51,13 @@ fn letter(bank: u8) -> u8
 
 // The name of a register. A byte that is no register has none. The stems are words in the arms, by bank, and no array: that would be
 // stored to the stack for each register. The compiler keeps this one function, which four places call.
-pub fn put_register(buf: &mut [u8], at: usize, letters: &Letters, starts: &Starts, reg: u8) -> usize
-    requires register_table { RegisterTable letters.now starts.now }
-    requires room { Room buf.old at (register_name reg) }
+pub fn put_register(buf: &mut [u8], at: usize, table: &RegisterTable, reg: u8) -> usize
+    requires { Room buf.old at (register_name reg) }
     ensures { Put buf.old at (register_name reg) result buf.new }
 {
     let bank = reg / 8;
     if bank < 4 {
-        return put_short(buf, at, letters, starts, reg as usize);
+        return table.put_short(buf, at, reg as usize);
     }
     let number = reg % 8;
     match bank {

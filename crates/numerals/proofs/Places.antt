@@ -2,7 +2,7 @@
 -- Assumes nothing.
 use mathlib.Core.Path.{◌≡◌, refl, sym, ap, ◌∙◌}
 use mathlib.Core.List.{List, [], ◌∷◌}
-use Prim.Native.Nat.{ℕ, zero, suc, ◌+◌, ◌-◌, ◌/◌, ◌%◌, ◌^◌, ◌≤◌, ◌<◌}
+use Prim.Native.Nat.{ℕ, zero, suc, ◌+◌, ◌-◌, ◌/◌, ◌%◌, ◌≤◌, ◌<◌}
 use native.Mathlib.Nat.{not-suc-le-zero}
 use native.Mathlib.Numerals.{add-one}
 use native.Mathlib.Omega.{arith}
@@ -10,17 +10,12 @@ use lib.ListN.{length, set, length-append}
 use Rattle.text.specs.Write.{write}
 use Rattle.text.specs.Code.{Put}
 use Rattle.text.proofs.Writing.{write_none, write_last}
-use Rattle.numerals.specs.Digits.{digit, digits, places, top}
-use Rattle.numerals.specs.Code.{TopOf}
+use Rattle.numerals.specs.Digits.{digit, digits}
 
 pub length_digits : (k v : ℕ) → length (digits k v) ≡ k
 unfolding digits
 length_digits zero v = refl
 length_digits (suc k) v = length-append (digits k (v / 16)) (digit (v % 16) ∷ []) ∙ rw (length_digits k (v / 16)) (add-one k)
-
--- what a comparison a place finds
-pub top_at : {v n d : ℕ} → places v ≡ n → n ≤ 8 → d ≡ v / 16 ^ (n - 1) → TopOf v n d
-top_at {v} e few first = record { count = sym e; first = first ∙ ap (λ (k : ℕ). top k v) (sym e); few = few }
 
 -- the loop from the last digit: with the last of `left` digits stored, one digit less of the quotient is left
 pub digits_last : (xs : List ℕ) (at left v : ℕ) → 0 < left → at + left ≤ length xs → write (set xs (at + (left - 1)) (digit (v % 16))) at (digits (left - 1) (v / 16)) ≡ write xs at (digits left v)

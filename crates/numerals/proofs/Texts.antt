@@ -52,9 +52,6 @@ pub numeral_by_lem : {v n d : ℕ} {h : Bool} → TopOf v n d → h ≡ hex_ambi
 unfolding numeral
 numeral_by_lem t e = rw (t.count, e)
 
-pub length-numeral_by : {v n d : ℕ} → TopOf v n d → length (numeral v) ≡ cond (leb 10 d) 1 0 + n + cond (hex_ambiguous v) 1 0
-length-numeral_by {v} t = length-numeral v ∙ rw (t.first, t.count)
-
 -- a displacement as the code has it at hand: `d` once more, and its size
 pub displacement_by : {d e : ℤ} {n : ℕ} → e ≡ d → n ≡ nat_abs e → displacement d ≡ sign e ++ numeral n
 unfolding displacement

@@ -8,8 +8,8 @@ pub fn put_decimal(buf: &mut [u8], at: usize, n: u64) -> usize
     ensures { Put buf.old at (decimal_of n) result buf.new }
 {
     if n < 10 {
-        return text::put_byte(buf, at, 48 + n as u8);
+        return text::put_byte(buf, at, b'0' + n as u8);
     }
     let next = put_decimal(buf, at, n / 10);
-    text::put_byte(buf, next, 48 + (n % 10) as u8)
+    text::put_byte(buf, next, b'0' + (n % 10) as u8)
 }

@@ -12,6 +12,7 @@ pub struct Top {
 }
 
 // By one comparison a place: the digit falls out of the same test.
+#[tactic(auto, unfolding(crate::specs::Digits::places, crate::specs::Digits::places_from))]
 pub fn top_of(v: u32) -> Top
     ensures { TopOf v result.places result.digit }
 {
@@ -63,11 +64,12 @@ pub fn top_of(v: u32) -> Top
     }
 }
 
+#[tactic(auto, unfolding(crate::specs::Digits::digit))]
 fn digit(d: u8) -> u8
     requires { d < 16 }
     ensures { result ≡ digit_of d }
 {
-    if d < 10 { 48 + d } else { 55 + d }
+    if d < 10 { b'0' + d } else { b'A' + (d - 10) }
 }
 
 // The last k digits of v, written from the last one.
@@ -75,12 +77,10 @@ pub fn put_digits(buf: &mut [u8], at: usize, k: usize, v: u32) -> usize
     requires { Room buf.old at (digits_of k v) }
     ensures { Put buf.old at (digits_of k v) result buf.new }
 {
-    let mut left = k;
-    let mut w = v;
-    while 0 < left {
-        left -= 1;
-        buf[at + left] = digit((w % 16) as u8);
-        w = w / 16;
+    let mut left = v;
+    for i in (0..k).rev() {
+        buf[at + i] = digit((left % 16) as u8);
+        left /= 16;
     }
     at + k
 }

@@ -2,7 +2,7 @@
 -- Assumes nothing.
 use Rattle.std.specs.Prelude.{Bool, true, false, cond, ◌&&◌, ℕ, ◌-◌, eqb, leb}
 use Rattle.operands.specs.declared.Operand.{Operand}
-use Rattle.operands.specs.declared.Operand.TheVariants.{Absent, Register, Imm, Absolute16, Absolute32, Memory}
+use Rattle.operands.specs.declared.Operand.TheVariants.{Absent, Register, Absolute16, Absolute32, Memory}
 
 -- "1 register in the R place (`RegRRR`), 2 register in the M place"
 abbrev pub register_r : ℕ
@@ -69,44 +69,26 @@ form kind = cond (is_masked kind) (kind - 6) kind
 -- "at or past the count"
 abbrev pub is_absent : Operand → Bool
 is_absent Absent = true
-is_absent (Register place reg) = false
-is_absent (Imm kind value) = false
-is_absent (Absolute16 segment address) = false
-is_absent (Absolute32 segment address) = false
-is_absent (Memory segment address mask) = false
+is_absent _ = false
 
 -- kinds 1 and 2
 abbrev pub is_register : Operand → Bool
-is_register Absent = false
 is_register (Register place reg) = true
-is_register (Imm kind value) = false
-is_register (Absolute16 segment address) = false
-is_register (Absolute32 segment address) = false
-is_register (Memory segment address mask) = false
+is_register _ = false
 
 -- kind 1
 abbrev pub is_register_r : Operand → Bool
-is_register_r Absent = false
 is_register_r (Register place reg) = eqb place register_r
-is_register_r (Imm kind value) = false
-is_register_r (Absolute16 segment address) = false
-is_register_r (Absolute32 segment address) = false
-is_register_r (Memory segment address mask) = false
+is_register_r _ = false
 
 -- kind 2
 abbrev pub is_register_m : Operand → Bool
-is_register_m Absent = false
 is_register_m (Register place reg) = eqb place register_m
-is_register_m (Imm kind value) = false
-is_register_m (Absolute16 segment address) = false
-is_register_m (Absolute32 segment address) = false
-is_register_m (Memory segment address mask) = false
+is_register_m _ = false
 
 -- kinds 9 to 22
 abbrev pub is_memory : Operand → Bool
-is_memory Absent = false
-is_memory (Register place reg) = false
-is_memory (Imm kind value) = false
 is_memory (Absolute16 segment address) = true
 is_memory (Absolute32 segment address) = true
 is_memory (Memory segment address mask) = true
+is_memory _ = false

@@ -1,6 +1,7 @@
 -- What an operand has of each kind: its register, its immediate, its segment, and what it shows by itself.
 -- Assumes nothing.
-use Rattle.std.specs.Prelude.{Bool, ◌&&◌, List, [], ◌∷◌, ℕ, zero, suc, eqb, get_or}
+use Rattle.std.specs.Prelude.{Bool, ◌&&◌, List, [], ◌∷◌, ℕ, zero, suc, eqb, get_or, Option}
+use Rattle.std.specs.Prelude as option
 use Rattle.operands.specs.declared.Operand.{Operand}
 use Rattle.operands.specs.declared.Operand.TheVariants.{Absent, Register, Imm, Absolute16, Absolute32, Memory}
 use Rattle.operands.specs.declared.Instruction.{Instruction}
@@ -8,8 +9,6 @@ use Rattle.operands.specs.declared.Label.{Label}
 use Rattle.operands.specs.declared.Label.TheVariants.{None}
 use Rattle.operands.specs.declared.Shown.{Shown}
 use Rattle.operands.specs.declared.Shown.TheVariants as shown
-use Rattle.operands.specs.declared.Broadcast.{Broadcast}
-use Rattle.operands.specs.declared.Broadcast.TheVariants as broadcast
 use Rattle.operands.specs.declared.Item.{Item}
 use Rattle.operands.specs.Kinds.{is_register}
 use Rattle.operands.specs.RegisterBytes.{is_vector_byte, bank, st0}
@@ -51,39 +50,25 @@ shown_of (Memory segment address mask) = shown.Bracket address
 
 -- an operand's own segment, 0 for none; what is no memory has none
 abbrev pub segment_of : Operand → ℕ
-segment_of Absent = 0
-segment_of (Register place reg) = 0
-segment_of (Imm kind value) = 0
 segment_of (Absolute16 segment address) = segment
 segment_of (Absolute32 segment address) = segment
 segment_of (Memory segment address mask) = segment
+segment_of _ = 0
 
 -- the register byte of kinds 1 and 2, and 0 of any other operand
 abbrev pub register_of : Operand → ℕ
-register_of Absent = 0
 register_of (Register place reg) = reg
-register_of (Imm kind value) = 0
-register_of (Absolute16 segment address) = 0
-register_of (Absolute32 segment address) = 0
-register_of (Memory segment address mask) = 0
+register_of _ = 0
 
 -- the kind of an immediate, 3 to 8, and 0 of any other operand
 abbrev pub immediate_kind : Operand → ℕ
-immediate_kind Absent = 0
-immediate_kind (Register place reg) = 0
 immediate_kind (Imm kind value) = kind
-immediate_kind (Absolute16 segment address) = 0
-immediate_kind (Absolute32 segment address) = 0
-immediate_kind (Memory segment address mask) = 0
+immediate_kind _ = 0
 
 -- the value of an immediate, and 0 of any other operand
 abbrev pub immediate_of : Operand → ℕ
-immediate_of Absent = 0
-immediate_of (Register place reg) = 0
 immediate_of (Imm kind value) = value
-immediate_of (Absolute16 segment address) = 0
-immediate_of (Absolute32 segment address) = 0
-immediate_of (Memory segment address mask) = 0
+immediate_of _ = 0
 
 -- a register of the banks 5 to 7
 abbrev pub is_vector : Operand → Bool
@@ -99,12 +84,8 @@ is_st0 o = is_register o && eqb (register_of o) st0
 
 -- the register byte of an operand's own mask, 0 for none
 abbrev pub mask_of : Operand → ℕ
-mask_of Absent = 0
-mask_of (Register place reg) = 0
-mask_of (Imm kind value) = 0
-mask_of (Absolute16 segment address) = 0
-mask_of (Absolute32 segment address) = 0
 mask_of (Memory segment address mask) = mask
+mask_of _ = 0
 
 -- a mask register, one of bank 9
 abbrev pub is_mask_register : Operand → Bool
@@ -126,20 +107,17 @@ immediate_width kind = get_or immediate_widths kind 0
 
 -- the width in bytes of an operand, 0 where it has none: "memory has none"
 abbrev pub width_of : Operand → ℕ
-width_of Absent = 0
 width_of (Register place reg) = bank_width (bank reg)
 width_of (Imm kind value) = immediate_width kind
-width_of (Absolute16 segment address) = 0
-width_of (Absolute32 segment address) = 0
-width_of (Memory segment address mask) = 0
+width_of _ = 0
 
 -- one operand of a line: its label, its segment, what is shown, and its mask and broadcast after that
-abbrev pub item : Label → ℕ → Shown → ℕ → Broadcast → Item
+abbrev pub item : Label → ℕ → Shown → ℕ → Option ℕ → Item
 item label segment shown mask broadcast = record { label = label; segment = segment; shown = shown; mask = mask; broadcast = broadcast }
 
 -- what is shown with nothing before it and nothing after it
 abbrev pub bare : Shown → Item
-bare shown = item None 0 shown 0 broadcast.None
+bare shown = item None 0 shown 0 option.None
 
 -- an operand that the line does not have
 abbrev pub nothing : Item

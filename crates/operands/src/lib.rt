@@ -51,7 +51,8 @@ pub enum Operand {
     },
 }
 
-// An accepted record, with its start address, which is 0 in version 1. `bits` are its length bits and `tail` its tail byte, which an extended record ends in; any other has 0 in both.
+// An accepted record, with its start address, which is 0 in version 1. `bits` are its length bits and `tail` its tail byte, which an
+// extended record ends in; any other has 0 in both.
 #[derive(Clone, Copy)]
 pub struct Instruction {
     pub opcode: u16,
@@ -139,23 +140,15 @@ pub enum Shown {
     },
 }
 
-// What stands after a memory operand that is broadcast.
-#[derive(Clone, Copy)]
-pub enum Broadcast {
-    // no text
-    None,
-    // `{1to4}`
-    To(u8),
-}
-
-// One operand of a line. A segment of 0 is not shown, and neither is a mask of 0, which is the register byte of eax.
+// One operand of a line. A segment of 0 is not shown, and neither is a mask of 0, which is the register byte of eax. A broadcast is the N
+// of `{1toN}`, as in `{1to4}`.
 #[derive(Clone, Copy)]
 pub struct Item {
     pub label: Label,
     pub segment: u8,
     pub shown: Shown,
     pub mask: u8,
-    pub broadcast: Broadcast,
+    pub broadcast: Option<u8>,
 }
 
 // What ends a line: a word of the Intel manual for the exceptions that are suppressed, and for how the result is rounded.

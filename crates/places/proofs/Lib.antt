@@ -1,2 +1,1 @@
-pub mod LabelNumbers
 pub mod Starts

@@ -24,8 +24,6 @@ operand_unstarted start i (suc (suc (suc (suc k)))) = refl
 module _ (mode : Mode) (arm : Arm) (start : ℕ) (i : Instruction) where
   pub nothing_unstarted : (p : Place) → is_nothing (item_at mode arm (starting_at start i) p).shown ≡ is_nothing (item_at mode arm i p).shown
   unfolding item_at branch_shown
-  nothing_unstarted place.Nothing = refl
-  nothing_unstarted (place.Register reg) = refl
   nothing_unstarted place.Branch = by mode
     where
       by : (m : Mode) → is_nothing (item_at m arm (starting_at start i) place.Branch).shown ≡ is_nothing (item_at m arm i place.Branch).shown
@@ -33,20 +31,17 @@ module _ (mode : Mode) (arm : Arm) (start : ℕ) (i : Instruction) where
       by Straight = refl
       by Target = refl
   nothing_unstarted (place.Operand k label segment short mask b) = rw (operand_unstarted start i k)
+  nothing_unstarted _ = refl
 
   pub mask_unstarted : (p : Place) → (item_at mode arm (starting_at start i) p).mask ≡ (item_at mode arm i p).mask
   unfolding item_at
-  mask_unstarted place.Nothing = refl
-  mask_unstarted (place.Register reg) = refl
-  mask_unstarted place.Branch = refl
   mask_unstarted (place.Operand k label segment short mask b) = rw (operand_unstarted start i k)
+  mask_unstarted _ = refl
 
   pub broadcast_unstarted : (p : Place) → (item_at mode arm (starting_at start i) p).broadcast ≡ (item_at mode arm i p).broadcast
   unfolding item_at
-  broadcast_unstarted place.Nothing = refl
-  broadcast_unstarted (place.Register reg) = refl
-  broadcast_unstarted place.Branch = refl
   broadcast_unstarted (place.Operand k label segment short mask b) = rw (operand_unstarted start i k)
+  broadcast_unstarted _ = refl
 
   pub left_unstarted : (plan : Plan) → from_the_left (items_at mode arm (starting_at start i) plan) ≡ from_the_left (items_at mode arm i plan)
   unfolding items_at

@@ -6,7 +6,7 @@ use Rattle.operands.specs.Kinds.{is_absent}
 use Rattle.operands.specs.declared.Instruction.{Instruction}
 use Rattle.operands.specs.declared.Items.{Items}
 use Rattle.operands.specs.declared.Shown.{Shown}
-use Rattle.operands.specs.declared.Shown.TheVariants.{Nothing, Name, St, Number, Word, Dword, Bracket, Branch, Target}
+use Rattle.operands.specs.declared.Shown.TheVariants.{Nothing}
 
 -- after an operand that is not there stands none: "an operand .. at or past the count"
 abbrev pub counted : Instruction → Bool
@@ -18,14 +18,7 @@ counted i =
 -- nothing is shown
 abbrev pub is_nothing : Shown → Bool
 is_nothing Nothing = true
-is_nothing (Name reg) = false
-is_nothing St = false
-is_nothing (Number value) = false
-is_nothing (Word address) = false
-is_nothing (Dword address) = false
-is_nothing (Bracket address) = false
-is_nothing (Branch word minus size) = false
-is_nothing (Target word target) = false
+is_nothing _ = false
 
 -- after an operand of a line that shows nothing stands none that shows something
 abbrev pub from_the_left : Items → Bool

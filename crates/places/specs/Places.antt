@@ -1,6 +1,7 @@
 -- What a place shows of a record, by the mode and the arm.
 -- Assumes nothing.
-use Rattle.std.specs.Prelude.{Bool, cond, ◌&&◌, ℕ, eqb}
+use Rattle.std.specs.Prelude.{Bool, cond, ◌&&◌, ℕ, eqb, Option}
+use Rattle.std.specs.Prelude as option
 use Rattle.operands.specs.Kinds.{is_memory}
 use Rattle.operands.specs.Parts.{operand_in, shown_of, segment_of, register_of, immediate_kind, immediate_of, mask_of, is_st0, item, bare, nothing}
 use Rattle.operands.specs.declared.Operand.{Operand}
@@ -9,8 +10,6 @@ use Rattle.operands.specs.declared.Label.{Label}
 use Rattle.operands.specs.declared.Label.TheVariants.{None}
 use Rattle.operands.specs.declared.Shown.{Shown}
 use Rattle.operands.specs.declared.Shown.TheVariants.{Name, St}
-use Rattle.operands.specs.declared.Broadcast.{Broadcast}
-use Rattle.operands.specs.declared.Broadcast.TheVariants as broadcast
 use Rattle.operands.specs.declared.Item.{Item}
 use Rattle.operands.specs.declared.Items.{Items}
 use Rattle.names.specs.declared.Arm.{Arm}
@@ -23,7 +22,6 @@ use Rattle.places.specs.declared.Mask.TheVariants.{Itself, Second}
 use Rattle.places.specs.declared.Place.{Place}
 use Rattle.places.specs.declared.Place.TheVariants as place
 use Rattle.places.specs.declared.Plan.{Plan}
-use Rattle.places.specs.Labels.{label_at}
 
 -- the segment that is shown of an operand, 0 for none; ds is segment 4
 abbrev pub segment_shown : Segment → Operand → ℕ
@@ -45,11 +43,11 @@ mask_shown Itself second o = mask_of o
 mask_shown Second second o = cond (is_memory o) second 0
 
 -- a broadcast stands after memory alone
-abbrev pub broadcast_shown : Broadcast → Operand → Broadcast
-broadcast_shown b o = cond (is_memory o) b broadcast.None
+abbrev pub broadcast_shown : Option ℕ → Operand → Option ℕ
+broadcast_shown b o = cond (is_memory o) b option.None
 
 -- an operand at a place; `second` is operand 1's register
-unfoldable pub operand_shown : Label → Segment → Bool → Mask → (second : ℕ) → Broadcast → Operand → Item
+unfoldable pub operand_shown : Label → Segment → Bool → Mask → (second : ℕ) → Option ℕ → Operand → Item
 operand_shown label segment short mask second b o =
     item (label_shown label o) (segment_shown segment o) (value_shown short o) (mask_shown mask second o) (broadcast_shown b o)
 
@@ -62,7 +60,7 @@ item_at mode arm i place.Nothing = nothing
 item_at mode arm i (place.Register reg) = bare (Name reg)
 item_at mode arm i place.Branch = bare (branch_of mode arm i)
 item_at mode arm i (place.Operand k label segment short mask b) =
-    operand_shown (label_at label) segment short mask (register_of i.b) b (operand_in i k)
+    operand_shown label segment short mask (register_of i.b) b (operand_in i k)
 
 -- what a plan shows, from the left
 unfoldable pub items_at : Mode → Arm → Instruction → Plan → Items

@@ -2,9 +2,7 @@
 // the record's body.
 #![tactic(auto)]
 
-pub mod labels;
-
-use operands::{Broadcast, Tail};
+use operands::{Label, Tail};
 
 // How a place shows the segment of its operand.
 #[derive(Clone, Copy)]
@@ -26,8 +24,8 @@ pub enum Mask {
     Second,
 }
 
-// What stands at a place: nothing; a register that the arm shows by itself; the branch of operand 0; or operand k, with the label
-// of this number and the broadcast where it is memory, with a mask, and as `st` where `short` is set and it is st(0).
+// What stands at a place: nothing; a register that the arm shows by itself; the branch of operand 0; or operand k, with this label
+// and the N of its broadcast where it is memory, with a mask, and as `st` where `short` is set and it is st(0).
 #[derive(Clone, Copy)]
 pub enum Place {
     // no text
@@ -39,11 +37,11 @@ pub enum Place {
     // `ecx`, `dword ptr fs:[ebx]`, `qword ptr [ebx]{k1}{1to8}`, `st`
     Operand {
         k: u8,
-        label: u8,
+        label: Label,
         segment: Segment,
         short: bool,
         mask: Mask,
-        broadcast: Broadcast,
+        broadcast: Option<u8>,
     },
 }
 

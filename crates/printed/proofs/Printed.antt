@@ -12,7 +12,6 @@ use Rattle.branches.specs.Sums.{signed, branch_sum, branch_shown}
 use Rattle.names.specs.Opcodes.{arms, arm_of, opcodes, mnemonics, mnemonic}
 use Rattle.names.specs.Registers.{registers, register_name, segments, segment_name}
 use Rattle.names.specs.Labels.{labels, label_word}
-use Rattle.places.specs.Labels.{label_at}
 use Rattle.places.specs.Places.{operand_shown, item_at, items_at}
 use Rattle.arms.specs.Labels.{size_label, general_label, lss_label, tbyte_label}
 use Rattle.arms.specs.Decorations.{broadcast_count, tail_of, broadcast_refused}
@@ -67,7 +66,7 @@ wanted_in r mode = wanted r.said
 
 -- all rows at once
 computed : map (λ (r : Row). map (found_in r) r.modes) t.computed ≡ map (λ (r : Row). map (wanted_in r) r.modes) t.computed
-unfolding t.computed branch_rows general_rows name_rows arm_rows refusal_rows listing_rows mask_rows vector_rows place_of any_masked is_extended mask_kept broadcast_refused broadcast_count tail_of decorated places_of decimal_within mask_text broadcast_text tail_word asked_refused fields start_of refusals listing_refusals listing_text lines_of lines_within front_line record_line refused_text refused_line record_text line_at length_refused field_refused operand_refused segment_kept first_kept second_kept scale_kept shape_refused size_refused arm_of arms opcodes instruction_of operand_at operand_of immediate disp_in address_of plan_of spread general general_label size_label lss_label tbyte_label label_at operand_shown item_at items_at signed branch_sum branch_shown head_of digit digits places_from places figure numeral displacement absolute mnemonics mnemonic registers register_name segments segment_name labels label_word label_text segment_text base_text scale_text indexed_text index_text tail_text bracket_text absolute_text branch_text shown_text item_text reps_text prefixes_text name_text head_text parted_text items_text line_text
+unfolding t.computed branch_rows general_rows name_rows arm_rows refusal_rows listing_rows mask_rows vector_rows place_of any_masked is_extended mask_kept broadcast_refused broadcast_count tail_of decorated places_of decimal_within mask_text broadcast_text tail_word asked_refused fields start_of refusals listing_refusals listing_text lines_of lines_within front_line record_line refused_text refused_line record_text line_at length_refused field_refused operand_refused segment_kept first_kept second_kept scale_kept shape_refused size_refused arm_of arms opcodes instruction_of operand_at operand_of immediate disp_in address_of plan_of spread general general_label size_label lss_label tbyte_label operand_shown item_at items_at signed branch_sum branch_shown head_of digit digits places_from places figure numeral displacement absolute mnemonics mnemonic registers register_name segments segment_name labels label_word label_text segment_text base_text scale_text indexed_text index_text tail_text bracket_text absolute_text branch_text shown_text item_text reps_text prefixes_text name_text head_text parted_text items_text line_text
 computed = refl
 
 -- what is found in one of its modes is what the row says there

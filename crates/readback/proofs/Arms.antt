@@ -10,7 +10,7 @@ use Rattle.operands.specs.Kinds.{is_absent, is_register, is_register_r, is_memor
 use Rattle.operands.specs.Parts.{starting_at, mask_of, is_mask_register}
 use Rattle.operands.specs.RegisterBytes.{is_register_byte}
 use Rattle.operands.specs.declared.Operand.{Operand}
-use Rattle.operands.specs.declared.Broadcast.{Broadcast}
+use Rattle.std.specs.Prelude.{Option as Optional}
 use Rattle.operands.specs.declared.Instruction.{Instruction}
 use Rattle.operands.specs.declared.Items.{Items}
 use Rattle.bodies.specs.WellFormed.{WellFormed}
@@ -161,7 +161,7 @@ places_sound Fbld i s = refl
 places_sound Fbstp i s = refl
 
 -- a broadcast leaves a place as sound as it is
-sound_with_broadcast : (c : Bool) (second : Operand) (b : Broadcast) (p : Place) → place_sound c second (broadcast_as b p) ≡ place_sound c second p
+sound_with_broadcast : (c : Bool) (second : Operand) (b : Optional ℕ) (p : Place) → place_sound c second (broadcast_as b p) ≡ place_sound c second p
 sound_with_broadcast c second b place.Nothing = refl
 sound_with_broadcast c second b (place.Register reg) = refl
 sound_with_broadcast c second b place.Branch = refl

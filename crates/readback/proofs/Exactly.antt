@@ -12,7 +12,7 @@ use lib.Dec.{T, ltb, eqb}
 use lib.Ieee.Bits.{is_true}
 use Rattle.operands.specs.declared.Instruction.{Instruction}
 use Rattle.operands.specs.declared.Label.{Label}
-use Rattle.operands.specs.declared.Broadcast.{Broadcast}
+use Rattle.std.specs.Prelude.{Option as Optional}
 use Rattle.operands.specs.declared.Shown.{Shown}
 use Rattle.operands.specs.declared.Shown.TheVariants.{Nothing, Name, St, Number, Word, Dword, Bracket, Branch as BranchShown, Target}
 use Rattle.operands.specs.declared.Item.{Item}
@@ -52,7 +52,7 @@ plain_no_target : (width : Option Width) (n : ℕ) → any_target (plain width n
 plain_no_target none n = refl
 plain_no_target (some width) n = refl
 
-shown_target : (start : ℕ) (l : Label) (s mask : ℕ) (b : Broadcast) (x : Shown) → is_branch_shown x ≡ false → any_target (operand_of start l s mask b x) ≡ false
+shown_target : (start : ℕ) (l : Label) (s mask : ℕ) (b : Optional ℕ) (x : Shown) → is_branch_shown x ≡ false → any_target (operand_of start l s mask b x) ≡ false
 shown_target start l s mask b Nothing e = refl
 shown_target start l s mask b (Name reg) e = refl
 shown_target start l s mask b St e = refl

@@ -8,7 +8,7 @@ use Prim.Native.Nat.{ℕ, zero, suc}
 use lib.ListN.{length, take, drop}
 use Rattle.answers.specs.Lines.{newline}
 use Rattle.answers.specs.Outcomes.{Gives}
-use Rattle.answers.specs.declared.Answer.{Answer}
+use Rattle.answers.specs.Reasons.{Answer, number_of_answer, length_of_answer}
 use Rattle.frames.specs.Frames.{body_length, is_whole, body_of, frame_size, known_version}
 use Rattle.bodies.specs.WellFormed.{Bytes}
 use Rattle.lines.specs.declared.Line.{Line}
@@ -70,5 +70,5 @@ module _ (asked : Asked) (start : ℕ) where
 
   -- Where the listing entry answers 0 with a length, so many bytes of the buffer after the call are that text.
   pub listing_reads_back : (listing buf : List ℕ) {after : List ℕ} {given : Answer} → Bytes listing → Gives (listing_outcome asked listing buf) given after
-      → given.number ≡ 0 → ReadsAs start (take given.length after) (listing_shows asked listing)
+      → number_of_answer given ≡ 0 → ReadsAs start (take (length_of_answer given) after) (listing_shows asked listing)
   listing_reads_back listing buf small g z = rw (first_bytes (listing_meets asked listing buf) g z) (text_reads_back listing small)

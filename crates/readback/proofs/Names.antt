@@ -17,8 +17,7 @@ use Rattle.names.specs.Labels.{labels as label_names, label_word}
 use Rattle.names.specs.Registers.{registers as register_names, register_name, segments as segment_names, segment_name}
 use Rattle.operands.specs.declared.Label.{Label}
 use Rattle.operands.specs.declared.Label.TheVariants as label
-use Rattle.operands.specs.declared.Broadcast.{Broadcast}
-use Rattle.operands.specs.declared.Broadcast.TheVariants as broadcast
+use Rattle.std.specs.Prelude.{Option as Optional, Some, None}
 use Rattle.operands.specs.declared.Tail.{Tail}
 use Rattle.operands.specs.declared.Tail.TheVariants as tail
 use Rattle.bodies.specs.WellFormed.{IndexKept}
@@ -116,10 +115,10 @@ decimals_read : T (below 17 (λ n. is_decimal n (decimal_within 2 n)))
 unfolding is_decimal decimal decimal_within
 decimals_read = tt
 
-pub broadcast_shown_lem : (b : Broadcast) → SoundBroadcast b → BroadcastText (copies_of b) (broadcast_text b)
+pub broadcast_shown_lem : (b : Optional ℕ) → SoundBroadcast b → BroadcastText (copies_of b) (broadcast_text b)
 unfolding broadcast_text
-broadcast_shown_lem broadcast.None h = no_broadcast
-broadcast_shown_lem (broadcast.To n) h = broadcast_text_lem (decimal_text (below_at 17 (λ n. is_decimal n (decimal_within 2 n)) decimals_read n (omega (arith, h))))
+broadcast_shown_lem None h = no_broadcast
+broadcast_shown_lem (Some n) h = broadcast_text_lem (decimal_text (below_at 17 (λ n. is_decimal n (decimal_within 2 n)) decimals_read n (omega (arith, h))))
 
 pub tail_shown : (t : Tail) → TailText (tail_of t) (tail_word t)
 unfolding tail_word

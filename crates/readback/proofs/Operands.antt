@@ -11,7 +11,7 @@ use lib.IntN.{ℤ, pos, ◌+ℤ◌}
 use Rattle.numerals.specs.Numerals.{numeral}
 use Rattle.operands.specs.declared.Address.{Address}
 use Rattle.operands.specs.declared.Label.{Label}
-use Rattle.operands.specs.declared.Broadcast.{Broadcast}
+use Rattle.std.specs.Prelude.{Option as Optional}
 use Rattle.operands.specs.declared.BranchWord.{BranchWord}
 use Rattle.operands.specs.declared.BranchWord.TheVariants as word
 use Rattle.operands.specs.declared.Shown.{Shown}
@@ -48,7 +48,7 @@ module _ (start : ℕ) (l : Label) (s : ℕ) (known : is_missing l ≡ false) (f
       rw e at (bare_address {start = start} (label_name l known) (segment_name_lem s few) a.text a.no_start)
 
   -- a mask and a broadcast after it
-  module _ (mask : ℕ) (b : Broadcast) (m : SoundMask mask) (n : SoundBroadcast b) where
+  module _ (mask : ℕ) (b : Optional ℕ) (m : SoundMask mask) (n : SoundBroadcast b) where
     decorated_address : {times : Register → ℕ} {d : ℕ} (t : List ℕ) → BareText start (address (label_of l) (segment_of s) times d none none) (label_text l ++ (segment_text s ++ t))
         → OperandText start (address (label_of l) (segment_of s) times d (mask_of mask) (copies_of b)) (label_text l ++ (segment_text s ++ (t ++ (mask_text mask ++ broadcast_text b))))
     decorated_address t r = simp append_assoc at (decorated-operand r (mask_shown_lem mask m) (broadcast_shown_lem b n))
@@ -101,7 +101,7 @@ bare_text : (x : Item) → Bare x → item_text x ≡ shown_text x.shown
 unfolding item_text label_text label_word labels segment_text mask_text broadcast_text
 bare_text x e = rw (e.label, e.segment, e.mask, e.broadcast) (append-nil (shown_text x.shown))
 
-module _ (start : ℕ) (l : Label) (s mask : ℕ) (b : Broadcast) (known : is_missing l ≡ false) where
+module _ (start : ℕ) (l : Label) (s mask : ℕ) (b : Optional ℕ) (known : is_missing l ≡ false) where
   abbrev with_shown : Shown → Item
   with_shown x = record { label = l; segment = s; shown = x; mask = mask; broadcast = b }
 

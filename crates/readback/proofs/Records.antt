@@ -9,7 +9,7 @@ use lib.ListN.{take}
 use Rattle.answers.specs.Refusals.{Refusal, answer_of}
 use Rattle.answers.specs.Outcomes.{Outcome, outcome_of, Gives}
 use Rattle.answers.specs.Table.{Answered}
-use Rattle.answers.specs.declared.Answer.{Answer}
+use Rattle.answers.specs.Reasons.{Answer, number_of_answer, length_of_answer}
 use Rattle.answers.proofs.Firsts.{answer_before}
 use Rattle.answers.proofs.Unique.{none_or_some}
 use Rattle.bodies.specs.WellFormed.{Bytes}
@@ -33,7 +33,7 @@ none_first rs ss e = go (none_or_some (answer_of rs))
 
 -- after answer 0 the first bytes of the buffer, up to the length, are the text
 pub first_bytes : {rs : List Refusal} {text buf : List ℕ} {o : Outcome} {given : Answer} {after : List ℕ}
-    → Answered rs text buf o.answer o.length o.buffer → Gives o given after → given.number ≡ 0 → take given.length after ≡ text
+    → Answered rs text buf o.answer o.length o.buffer → Gives o given after → number_of_answer given ≡ 0 → take (length_of_answer given) after ≡ text
 first_bytes met g z = rw (g.length, g.after) (met.front (sym g.answer ∙ z))
 
 -- ---- The record entry
@@ -50,6 +50,6 @@ module _ (asked : Asked) (body buf : List ℕ) (bytes : Bytes body) (e : (record
 
 -- Where the record entry answers 0 with a length, so many bytes of the buffer after the call are read as what the record shows.
 pub buffer_reads_back : (asked : Asked) (body buf : List ℕ) {after : List ℕ} {given : Answer} → Bytes body → Gives (record_outcome asked body buf) given after
-    → given.number ≡ 0 → (start : ℕ) → read start (take given.length after) ≡ shows (meaning start (line_at asked body))
+    → number_of_answer given ≡ 0 → (start : ℕ) → read start (take (length_of_answer given) after) ≡ shows (meaning start (line_at asked body))
 buffer_reads_back asked body buf bytes g z start =
     rw (first_bytes (record_meets asked body buf) g z) (record_reads_back asked body buf bytes (sym g.answer ∙ z) start)

@@ -4,11 +4,10 @@ use mathlib.Core.Bool.{Bool, true, false}
 use mathlib.Core.Path.{◌≡◌}
 use mathlib.Core.Logic.{◌⊎◌}
 use Prim.Native.Nat.{ℕ, ◌^◌, ◌<◌, ◌≤◌}
-use Rattle.operands.specs.declared.Label.TheVariants.{None}
+use Rattle.operands.specs.declared.Label.TheVariants as label
 use Rattle.operands.specs.declared.Shown.{Shown}
 use Rattle.operands.specs.declared.Shown.TheVariants.{Nothing, Name, St, Number, Word, Dword, Bracket, Branch, Target}
-use Rattle.operands.specs.declared.Broadcast.{Broadcast}
-use Rattle.operands.specs.declared.Broadcast.TheVariants as broadcast
+use Rattle.std.specs.Prelude.{Option as Optional, Some, None}
 use Rattle.operands.specs.declared.Tail.TheVariants as tail
 use Rattle.operands.specs.declared.Item.{Item}
 use Rattle.bodies.specs.WellFormed.{AddressKept}
@@ -66,16 +65,16 @@ abbrev pub SoundMask : ℕ → Type 0
 SoundMask mask = (mask ≡ 0) ⊎ ((72 ≤ mask) × (mask < 80))
 
 -- N is at most 16
-abbrev pub SoundBroadcast : Broadcast → Type 0
-SoundBroadcast broadcast.None = Unit {0}
-SoundBroadcast (broadcast.To n) = n ≤ 16
+abbrev pub SoundBroadcast : Optional ℕ → Type 0
+SoundBroadcast None = Unit {0}
+SoundBroadcast (Some n) = n ≤ 16
 
 -- nothing stands before it or after it
 pub record Bare (x : Item) : Type 0 where
-  pub label : x.label ≡ None
+  pub label : x.label ≡ label.None
   pub segment : x.segment ≡ 0
   pub mask : x.mask ≡ 0
-  pub broadcast : x.broadcast ≡ broadcast.None
+  pub broadcast : x.broadcast ≡ None
 
 -- an operand of a line: what is shown, after a known segment and before a known mask and N; what is no address has none of these; a
 -- branch only where the record is one

@@ -17,8 +17,7 @@ use Rattle.operands.specs.declared.Operand.{Operand}
 use Rattle.operands.specs.declared.Operand.TheVariants.{Absent, Register, Imm, Absolute16, Absolute32, Memory}
 use Rattle.operands.specs.declared.Instruction.{Instruction}
 use Rattle.operands.specs.declared.Label.{Label}
-use Rattle.operands.specs.declared.Broadcast.{Broadcast}
-use Rattle.operands.specs.declared.Broadcast.TheVariants as broadcast
+use Rattle.std.specs.Prelude.{Option as Optional, Some, None}
 use Rattle.operands.specs.declared.Shown.{Shown}
 use Rattle.operands.specs.declared.Shown.TheVariants as shown
 use Rattle.bodies.specs.WellFormed.{Kept, WellFormed}
@@ -29,7 +28,6 @@ use Rattle.branches.specs.declared.Mode.TheVariants as mode
 use Rattle.branches.specs.declared.Mode.TheVariants.{Crate, Straight}
 use Rattle.branches.specs.Sums.{signed, short_sum, branch_sum, branch_shown}
 use Rattle.branches.proofs.Wrapping.{Within, signed_within}
-use Rattle.places.specs.Labels.{label_at}
 use Rattle.places.specs.Places.{segment_shown, value_shown, mask_shown, operand_shown, item_at}
 use Rattle.places.specs.declared.Mask.{Mask}
 use Rattle.places.specs.declared.Mask.TheVariants.{Itself, Second}
@@ -165,14 +163,14 @@ mask_shown_none : (mask : Mask) (second : ℕ) (o : Operand) → is_memory o ≡
 mask_shown_none Itself second o e = mask_none o e
 mask_shown_none Second second o e = rw e
 
-broadcast_sound : (b : Broadcast) (memory : Bool) → (is_over16 b && memory) ≡ false → SoundBroadcast (cond memory b broadcast.None)
-broadcast_sound broadcast.None true e = tt
-broadcast_sound broadcast.None false e = tt
-broadcast_sound (broadcast.To n) true e = ltb-false 16 n (simp and-true at e)
-broadcast_sound (broadcast.To n) false e = tt
+broadcast_sound : (b : Optional ℕ) (memory : Bool) → (is_over16 b && memory) ≡ false → SoundBroadcast (cond memory b None)
+broadcast_sound None true e = tt
+broadcast_sound None false e = tt
+broadcast_sound (Some n) true e = ltb-false 16 n (simp and-true at e)
+broadcast_sound (Some n) false e = tt
 
 -- an operand at any place
-sound_shown : {c : Bool} (label : Label) (segment : Segment) (short : Bool) (mask : Mask) (second : Operand) (b : Broadcast) (o : Operand) → Kept o
+sound_shown : {c : Bool} (label : Label) (segment : Segment) (short : Bool) (mask : Mask) (second : Operand) (b : Optional ℕ) (o : Operand) → Kept o
     → mask_sound mask second ≡ true → (is_over16 b && is_memory o) ≡ false → SoundItem c (operand_shown label segment short mask (register_of second) b o)
 unfolding operand_shown
 sound_shown label segment short mask second b o k masked few =
@@ -258,4 +256,4 @@ module _ (mode : Mode) (arm : Arm) (i : Instruction) (w : WellFormed i) where
         bare = λ f. bare_itself;
         branch = λ f. e;
       }
-  sound_place (place.Operand k label segment short mask b) e o = sound_shown (label_at label) segment short mask i.b b (operand_in i k) (operand_kept_lem k) e o
+  sound_place (place.Operand k label segment short mask b) e o = sound_shown label segment short mask i.b b (operand_in i k) (operand_kept_lem k) e o

@@ -12,8 +12,7 @@ use Rattle.operands.specs.declared.BranchWord.{BranchWord}
 use Rattle.operands.specs.declared.BranchWord.TheVariants as word
 use Rattle.operands.specs.declared.Shown.{Shown}
 use Rattle.operands.specs.declared.Shown.TheVariants.{Nothing, Name, St, Number, Word, Dword, Bracket, Branch, Target}
-use Rattle.operands.specs.declared.Broadcast.{Broadcast}
-use Rattle.operands.specs.declared.Broadcast.TheVariants as broadcast
+use Rattle.std.specs.Prelude.{Option as Optional, Some, None}
 use Rattle.operands.specs.declared.Tail.{Tail}
 use Rattle.operands.specs.declared.Tail.TheVariants as tail
 use Rattle.operands.specs.declared.Item.{Item}
@@ -90,9 +89,9 @@ abbrev pub mask_of : ℕ → Option Register
 mask_of mask = cond (ltb 0 mask) (some mask) none
 
 -- N of `{1toN}`
-abbrev pub copies_of : Broadcast → Option ℕ
-copies_of broadcast.None = none
-copies_of (broadcast.To n) = some n
+abbrev pub copies_of : Optional ℕ → Option ℕ
+copies_of None = none
+copies_of (Some n) = some n
 
 -- the word at the end of a line
 abbrev pub tail_of : Tail → Option lines.Tail
@@ -114,7 +113,7 @@ added_of a = cond a.displaced a.disp (pos 0)
 -- what an operand of a line shows, or nothing: a register by its byte (`st` is st(0)), an immediate, an address, a branch to the sum of
 -- the start and the signed number after `$`, or a target, which is a plain number and owes nothing to the start. An absolute is an address
 -- that counts no register. A mask and a broadcast are an address's.
-abbrev pub operand_of : (start : ℕ) (label : Label) (segment mask : ℕ) → Broadcast → Shown → List Operand
+abbrev pub operand_of : (start : ℕ) (label : Label) (segment mask : ℕ) → Optional ℕ → Shown → List Operand
 operand_of start label segment mask b Nothing = []
 operand_of start label segment mask b (Name reg) = register reg ∷ []
 operand_of start label segment mask b St = register st0 ∷ []

@@ -9,7 +9,7 @@ use Rattle.names.specs.declared.Arm.{Arm}
 use Rattle.names.specs.declared.Arm.TheVariants as arm
 use Rattle.operands.specs.Kinds.{is_absent, is_register, is_register_r, is_memory}
 use Rattle.operands.specs.declared.Instruction.{Instruction}
-use Rattle.operands.specs.declared.Broadcast.{Broadcast}
+use Rattle.std.specs.Prelude.{Option}
 use Rattle.places.specs.declared.Place.{Place}
 use Rattle.places.specs.declared.Place.TheVariants as place
 use Rattle.places.specs.declared.Plan.{Plan}
@@ -67,7 +67,7 @@ places_in_order arm.Fbld i = tt
 places_in_order arm.Fbstp i = tt
 
 -- a broadcast and a tail leave the operands where they are
-from_with_broadcast : (j : ℕ) (b : Broadcast) (p : Place) → is_from j (broadcast_as b p) ≡ is_from j p
+from_with_broadcast : (j : ℕ) (b : Option ℕ) (p : Place) → is_from j (broadcast_as b p) ≡ is_from j p
 from_with_broadcast j b place.Nothing = refl
 from_with_broadcast j b (place.Register reg) = refl
 from_with_broadcast j b place.Branch = refl

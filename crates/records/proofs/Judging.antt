@@ -1,23 +1,28 @@
 -- What a record comes to, from its refusals, and back.
 -- Assumes nothing.
-use mathlib.Core.Path.{◌≡◌, refl, sym, ap, ◌∙◌}
+use mathlib.Core.Path.{◌≡◌, refl, sym, ap, subst, ◌∙◌}
 use mathlib.Core.Bool.{Bool, true, false, cond}
 use mathlib.Core.List.{List}
 use Prim.Native.Nat.{ℕ, ◌-◌, ◌≤◌, ◌<◌}
 use native.Mathlib.Omega.{arith}
-use lib.Dec.{eqb}
 use lib.ListN.{length, take, drop, length-drop}
 use lib.Seq.{take-length}
-use borrow.Author.Tests.{not-false, eqb-true, eqb-false, ltb-false}
+use borrow.Author.Tests.{not-false, ltb-false}
+use Rattle.std.specs.Prelude.{Result, Ok, Err, IsErrAnd, IfOk, IfErr}
+use Rattle.std.proofs.Common.{Bor}
 use Rattle.answers.specs.Refusals.{answer_of, room, None, NeverZero}
+use Rattle.answers.specs.Reasons.{number_of}
+use Rattle.answers.specs.declared.Reason.{Reason}
+use Rattle.answers.specs.declared.Reason.TheVariants as reason
 use Rattle.answers.proofs.Firsts.{never-zero_by, answer_below, answer_not, none_or_answer}
 use Rattle.frames.specs.Frames.{known_version}
 use Rattle.bodies.specs.Body.{count_of}
 use Rattle.bodies.specs.Refusals.{length_refused, field_refused}
-use Rattle.bodies.specs.Code.{rest_at, front_of, fields_by, instruction_by, Whole, body_answer}
+use Rattle.bodies.specs.Code.{rest_at, front_of, fields_by, Whole, body_answer}
 use Rattle.bodies.specs.declared.Front.{Front}
+use Rattle.bodies.proofs.OldAccepted.{nothing_refused}
 use Rattle.bodies.specs.Versions.{fields, start_of, record_of}
-use Rattle.bodies.proofs.Versions.{fields_by_lem, rest_within}
+use Rattle.bodies.proofs.Versions.{fields_by_lem}
 use Rattle.bodies.specs.Decoding.{instruction_of}
 use Rattle.bodies.proofs.Lengths.{whole}
 use Rattle.bodies.proofs.Picks.{neither_left, neither_right}
@@ -35,10 +40,27 @@ use Rattle.branches.specs.declared.Mode.{Mode}
 use Rattle.arms.proofs.Lacking.{plan_lacking}
 use Rattle.arms.proofs.Ordered.{body_from_the_left}
 use Rattle.records.specs.Records.{asked_refused, fields_of, arm_at, refusals}
-use Rattle.records.specs.Judged.{judged, JudgesFields}
+use Rattle.records.specs.Judged.{FieldsAnswer, AcceptsFields, Accepts}
 use Rattle.records.specs.declared.Asked.{Asked}
-use Rattle.records.specs.declared.Judged.{Judged}
-use Rattle.records.specs.declared.Judged.TheVariants.{Refused, Accepted}
+use Rattle.records.specs.declared.Accepted.{Accepted}
+
+-- no reason has the number of what is printed
+pub number_some : (r : Reason) → 0 < number_of r
+number_some reason.Mode = omega arith
+number_some reason.Length = omega arith
+number_some reason.Field = omega arith
+number_some reason.Shape = omega arith
+number_some reason.Size = omega arith
+number_some reason.Broadcast = omega arith
+
+-- and each is put as two digits at most
+pub number_below : (r : Reason) → number_of r < 100
+number_below reason.Mode = omega arith
+number_below reason.Length = omega arith
+number_below reason.Field = omega arith
+number_below reason.Shape = omega arith
+number_below reason.Size = omega arith
+number_below reason.Broadcast = omega arith
 
 -- a version that is accepted is known
 pub version_known : (asked : Asked) → asked_refused asked ≡ false → known_version asked.version ≡ true
@@ -47,23 +69,23 @@ version_known asked e = not-false (known_version asked.version) (search (neither
 
 module _ (asked : Asked) (body : List ℕ) {f : List ℕ} (is : fields_of asked body ≡ f) where
   -- the first refusal that applies, one by one
-  pub at_mode : asked_refused asked ≡ true → judged asked body ≡ Refused 1
-  unfolding judged refusals
+  pub at_mode : asked_refused asked ≡ true → answer_of (refusals asked body) ≡ 1
+  unfolding refusals
   at_mode e = rw e
 
   module _ (m : asked_refused asked ≡ false) where
-    pub at_length : length_refused f ≡ true → judged asked body ≡ Refused 2
-    unfolding judged refusals
+    pub at_length : length_refused f ≡ true → answer_of (refusals asked body) ≡ 2
+    unfolding refusals
     at_length e = rw (is, m, e)
 
     module _ (l : length_refused f ≡ false) where
-      pub at_field : field_refused f ≡ true → judged asked body ≡ Refused 3
-      unfolding judged refusals
+      pub at_field : field_refused f ≡ true → answer_of (refusals asked body) ≡ 3
+      unfolding refusals
       at_field e = rw (is, m, l, e)
 
       module _ (d : field_refused f ≡ false) where
-        pub at_shape : {arm : Arm} → arm ≡ arm_at f → shape_refused arm (instruction_of f) ≡ true → judged asked body ≡ Refused 4
-        unfolding judged refusals
+        pub at_shape : {arm : Arm} → arm ≡ arm_at f → shape_refused arm (instruction_of f) ≡ true → answer_of (refusals asked body) ≡ 4
+        unfolding refusals
         at_shape a e = rw (is, m, l, d, rw a at e)
 
         module _ {arm : Arm} (a : arm ≡ arm_at f) (s : shape_refused arm (instruction_of f) ≡ false) where
@@ -74,27 +96,27 @@ module _ (asked : Asked) (body : List ℕ) {f : List ℕ} (is : fields_of asked 
             size_is : plan_lacks (instruction_of f) plan ≡ size_refused (arm_at f) (instruction_of f)
             size_is = rw (p, a) (plan_lacking (arm_at f) (instruction_of f) shape_kept)
 
-            pub at_size : plan_lacks (instruction_of f) plan ≡ true → judged asked body ≡ Refused 5
-            unfolding judged refusals
+            pub at_size : plan_lacks (instruction_of f) plan ≡ true → answer_of (refusals asked body) ≡ 5
+            unfolding refusals
             at_size e = rw (is, m, l, d, shape_kept, sym size_is ∙ e)
 
             module _ (z : plan_lacks (instruction_of f) plan ≡ false) where
-              pub at_broadcast : broadcast_refused arm (instruction_of f) ≡ true → judged asked body ≡ Refused 7
-              unfolding judged refusals
+              pub at_broadcast : broadcast_refused arm (instruction_of f) ≡ true → answer_of (refusals asked body) ≡ 7
+              unfolding refusals
               at_broadcast e = rw (is, m, l, d, shape_kept, sym size_is ∙ z, rw a at e)
 
-              pub at_accepted : broadcast_refused arm (instruction_of f) ≡ false → judged asked body ≡ Accepted arm plan
-              unfolding judged refusals
-              at_accepted e = rw (is, m, l, d, shape_kept, sym size_is ∙ z, rw a at e, p, a)
+              pub at_accepted : broadcast_refused arm (instruction_of f) ≡ false → answer_of (refusals asked body) ≡ 0
+              unfolding refusals
+              at_accepted e = rw (is, m, l, d, shape_kept, sym size_is ∙ z, rw a at e)
 
     -- answers 2 and 3 at once
-    pub at_body : {n : ℕ} → n ≡ body_answer f → 0 < n → judged asked body ≡ Refused n
-    at_body {n} e some = go (length_refused f) (field_refused f) refl refl e
+    pub at_body : (r : Reason) → number_of r ≡ body_answer f → answer_of (refusals asked body) ≡ number_of r
+    at_body r e = go (length_refused f) (field_refused f) refl refl e
       where
-        go : (p q : Bool) → length_refused f ≡ p → field_refused f ≡ q → n ≡ cond p 2 (cond q 3 0) → judged asked body ≡ Refused n
+        go : (p q : Bool) → length_refused f ≡ p → field_refused f ≡ q → number_of r ≡ cond p 2 (cond q 3 0) → answer_of (refusals asked body) ≡ number_of r
         go true q l d k = rw k (at_length l)
         go false true l d k = rw k (at_field l d)
-        go false false l d k = absurd (let z : ⊥ = omega (arith, k, some) in z)
+        go false false l d k = absurd (let z : ⊥ = omega (arith, k, number_some r) in z)
 
 module _ (asked : Asked) (body : List ℕ) where
   abbrev f : List ℕ
@@ -113,29 +135,28 @@ module _ (asked : Asked) (body : List ℕ) where
   unfolding refusals
   refusals-not-room = answer_not room (refusals asked body) (omega arith) tt
 
-  -- a refusal's number is the answer's
-  pub judged_refused : {n : ℕ} → judged asked body ≡ Refused n → (n ≡ answer_of (refusals asked body)) × (0 < n)
-  unfolding judged
-  judged_refused {n} e = go (eqb (answer_of (refusals asked body)) 0) refl e
-    where
-      go : (b : Bool) → eqb (answer_of (refusals asked body)) 0 ≡ b → cond b (Accepted (arm_at f) (plan_of (arm_at f) (instruction_of f))) (Refused (answer_of (refusals asked body))) ≡ Refused n → (n ≡ answer_of (refusals asked body)) × (0 < n)
-      go true t e = absurd (let z : ◌≡◌ {A = ℕ} 0 1 = cc in omega arith)
-      go false t e =
-          let same : n ≡ answer_of (refusals asked body) = cc in
-          (same, omega (arith, same, eqb-false (answer_of (refusals asked body)) 0 t))
-
-  -- an accepted record has no refusal, and is shown by its own arm and plan
-  pub judged_accepted : {arm : Arm} {plan : Plan} → judged asked body ≡ Accepted arm plan → (answer_of (refusals asked body) ≡ 0) × (arm ≡ arm_at f) × (plan ≡ plan_of (arm_at f) (instruction_of f))
-  unfolding judged
-  judged_accepted {arm} {plan} e = go (eqb (answer_of (refusals asked body)) 0) refl e
-    where
-      go : (b : Bool) → eqb (answer_of (refusals asked body)) 0 ≡ b → cond b (Accepted (arm_at f) (plan_of (arm_at f) (instruction_of f))) (Refused (answer_of (refusals asked body))) ≡ Accepted arm plan → (answer_of (refusals asked body) ≡ 0) × (arm ≡ arm_at f) × (plan ≡ plan_of (arm_at f) (instruction_of f))
-      go true t e = (eqb-true (answer_of (refusals asked body)) 0 t, cc, cc)
-      go false t e = absurd (let z : ◌≡◌ {A = ℕ} 0 1 = cc in omega arith)
-
 pub few_counted : (f : List ℕ) → field_refused f ≡ false → count_of f ≤ 4
 unfolding field_refused
 few_counted f e = ltb-false 4 (count_of f) (search (neither_left, neither_right, e) depth 10)
+
+-- a body that was checked has the fields that it was checked by, and neither answer 2 nor answer 3 refuses them
+pub record Checked (front : Front) (rest f : List ℕ) : Type 0 where
+  pub same : f ≡ fields_by front rest
+  pub no_length : length_refused (fields_by front rest) ≡ false
+  pub no_field : field_refused (fields_by front rest) ≡ false
+
+pub checked_by : {front given : Front} {rest lent : Bor (List ℕ)} → (front ≡ given) × (rest ≡ lent) × (body_answer (fields_by given lent.now) ≡ 0) → Checked front rest.now (fields_by given lent.now)
+checked_by {given = given} {lent = lent} e =
+    let kept = nothing_refused (fields_by given lent.now) e.2 in
+    record { same = rw (e.0, e.1); no_length = rw (e.0, e.1) kept.0; no_field = rw (e.0, e.1) kept.1 }
+
+pub accepts_as : {f g : List ℕ} {arm : Arm} {plan : Plan} → f ≡ g → AcceptsFields g arm plan → AcceptsFields f arm plan
+accepts_as {arm = arm} {plan} same k = subst (λ (x : List ℕ). AcceptsFields x arm plan) (sym same) k
+
+-- what is said of the error that `?` passes on
+pub passed_on : {A E : Type 0} (r : Result A E) {e : E} (P : E → Type 0) → IsErrAnd r (λ x. x ≡ e) → P e → IfErr r P
+passed_on (Ok x) P is p = tt
+passed_on (Err x) P is p = rw is p
 
 -- the front and the rest that the code has are the fields
 pub parts_are : (version : ℕ) (body : List ℕ) {at : ℕ} {front : Front} → at ≡ rest_at version → at ≤ length body → front ≡ front_of version body → fields version body ≡ fields_by front (take (length body - at) (drop at body))
@@ -143,16 +164,29 @@ parts_are version body {at} a h e =
     let all : take (length body - at) (drop at body) ≡ drop at body = ap (λ (n : ℕ). take n (drop at body)) (sym (length-drop at body)) ∙ take-length (drop at body) in
     rw (all, e, a) (sym (fields_by_lem version body (rw a at h)))
 
--- and so is its record
-pub record_is : (version : ℕ) (body : List ℕ) {at : ℕ} {front : Front} → at ≡ rest_at version → at ≤ length body → front ≡ front_of version body → record_of version body ≡ instruction_by front (take (length body - at) (drop at body))
-record_is version body a h e = rw (parts_are version body a h e, ap (λ (f : Front). f.start) e)
+-- so what the code judges of the two is what is judged of the body
+module _ (asked : Asked) (body : List ℕ) {at : ℕ} {front : Front} (m : asked_refused asked ≡ false) (a : at ≡ rest_at asked.version) (h : at ≤ length body) (e : front ≡ front_of asked.version body) where
+  abbrev rest : List ℕ
+  rest = take (length body - at) (drop at body)
 
--- what the code judges of the two parts is what is judged of the body
-pub judged_by :
-    (asked : Asked) (body : List ℕ) {at : ℕ} {front : Front} {r : Judged} →
-    asked_refused asked ≡ false → at ≡ rest_at asked.version → at ≤ length body → front ≡ front_of asked.version body →
-    JudgesFields (fields_by front (take (length body - at) (drop at body))) r → r ≡ judged asked body
-judged_by asked body m a h e j = j asked body m (parts_are asked.version body a h e)
+  accepts_by : {arm : Arm} {plan : Plan} → AcceptsFields (fields_by front rest) arm plan → Accepts asked body arm plan front rest
+  accepts_by j =
+      let parts = parts_are asked.version body a h e in
+      record {
+        answer = j.answer asked body m parts;
+        own_arm = rw parts j.own_arm;
+        own_plan = rw parts j.own_plan;
+        fields = parts;
+        start = sym (ap (λ (f : Front). f.start) e);
+      }
+
+  pub judged_ok : (given : Bor (List ℕ)) (r : Result Accepted Reason) → given.now ≡ rest → IfOk r (λ x. AcceptsFields (fields_by front given.now) x.arm x.plan × (x.body.front ≡ front) × (x.body.rest ≡ given)) → IfOk r (λ x. Accepts asked body x.arm x.plan x.body.front x.body.rest.now)
+  judged_ok given (Ok x) is j = rw (j.1, j.2, is) (accepts_by (rw is at j.0))
+  judged_ok given (Err reason) is j = tt
+
+  pub judged_err : (r : Result Accepted Reason) → IfErr r (λ why. FieldsAnswer (fields_by front rest) (number_of why)) → IfErr r (λ why. number_of why ≡ answer_of (refusals asked body))
+  judged_err (Ok x) j = tt
+  judged_err (Err reason) j = sym (j asked body m (parts_are asked.version body a h e))
 
 -- what is known of an accepted record
 pub record Unrefused (asked : Asked) (body : List ℕ) : Type 0 where
@@ -179,10 +213,6 @@ unrefused asked body e =
       held = whole (fields_of asked body) n.1.0;
       few = few_counted (fields_of asked body) n.1.1.0;
     }
-
--- an accepted record holds its rest
-pub rest_held : {asked : Asked} {body : List ℕ} → Unrefused asked body → rest_at asked.version ≤ length body
-rest_held {asked} {body} k = rest_within asked.version body k.held.fixed
 
 -- the plan of an accepted record shows its operands from the left
 pub plan_from_the_left :

@@ -17,7 +17,6 @@ use Rattle.branches.specs.Sums.{signed, branch_sum, branch_shown}
 use Rattle.names.specs.Opcodes.{arms, arm_of, opcodes, mnemonics, mnemonic}
 use Rattle.names.specs.Registers.{registers, register_name, segments, segment_name}
 use Rattle.names.specs.Labels.{labels, label_word}
-use Rattle.places.specs.Labels.{label_at}
 use Rattle.places.specs.Places.{operand_shown, item_at, items_at}
 use Rattle.arms.specs.Labels.{size_label, general_label}
 use Rattle.arms.specs.Decorations.{broadcast_count, tail_of, broadcast_refused}
@@ -46,7 +45,7 @@ abbrev printed : List ℕ → ℕ → Comes
 printed text mode = record { answer = 0; text = text }
 
 computed : map (λ (c : Compared). map (comes c.version c.body) c.modes) lines ≡ map (λ (c : Compared). map (printed (bytes c.line)) c.modes) lines
-unfolding lines refusals asked_refused fields start_of record_text line_at place_of any_masked is_extended mask_kept broadcast_refused broadcast_count tail_of decorated places_of mask_text broadcast_text tail_word length_refused field_refused operand_refused segment_kept first_kept second_kept scale_kept shape_refused size_refused arm_of arms opcodes instruction_of operand_at operand_of immediate disp_in address_of plan_of spread general general_label size_label label_at operand_shown item_at items_at signed branch_sum branch_shown head_of digit digits places_from places figure numeral displacement mnemonics mnemonic registers register_name segments segment_name labels label_word label_text segment_text base_text index_text tail_text bracket_text branch_text target_text absolute shown_text item_text reps_text prefixes_text name_text head_text parted_text items_text line_text
+unfolding lines refusals asked_refused fields start_of record_text line_at place_of any_masked is_extended mask_kept broadcast_refused broadcast_count tail_of decorated places_of mask_text broadcast_text tail_word length_refused field_refused operand_refused segment_kept first_kept second_kept scale_kept shape_refused size_refused arm_of arms opcodes instruction_of operand_at operand_of immediate disp_in address_of plan_of spread general general_label size_label operand_shown item_at items_at signed branch_sum branch_shown head_of digit digits places_from places figure numeral displacement mnemonics mnemonic registers register_name segments segment_name labels label_word label_text segment_text base_text index_text tail_text bracket_text branch_text target_text absolute shown_text item_text reps_text prefixes_text name_text head_text parted_text items_text line_text
 computed = refl
 
 prints : (version : ℕ) (text : List ℕ) (body : List ℕ) (mode : ℕ) → comes version body mode ≡ printed text mode → Prints (asking_of version mode) body text

@@ -4,6 +4,8 @@
 pub mod judge;
 pub mod put;
 
+use answers::Reason;
+use bodies::Body;
 use names::Arm;
 use places::Plan;
 
@@ -14,16 +16,17 @@ pub struct Asked {
     pub version: u32,
 }
 
-// What a record comes to before there is a buffer: the number of the first refusal, or the arm and the plan of its line.
+// A record that nothing refuses before there is a buffer: its arm, the plan of its line, and its body.
 #[derive(Clone, Copy)]
-pub enum Judged {
-    Refused(u8),
-    Accepted { arm: Arm, plan: Plan },
+pub struct Accepted<'a> {
+    pub arm: Arm,
+    pub plan: Plan,
+    pub body: Body<'a>,
 }
 
-// What was put of a record: its answer before there is a buffer, and the place after its text.
+// What was put of a record: why it is refused, if it is, and the place after its text.
 #[derive(Clone, Copy)]
 pub struct Placed {
-    pub number: u8,
+    pub refused: Option<Reason>,
     pub out: usize,
 }

@@ -215,7 +215,7 @@ pub record EndsAt (from : Ending) (size used : ℕ) (final : Stage) (last : Next
   pub place : last ≡ Cut → size + begun_of final ≡ used + from.tail
 
 -- a pass, and what comes after it
-module _ {asked : Asked} {stage : Stage} {held : List ℕ} {ended : Bool} {r : Passed} {after : List ℕ} (p : Passes asked stage held ended r after) (ys : List ℕ) (alive : Alive stage) where
+module _ {asked : Asked} {stage : Stage} {held : List ℕ} {ended : Bool} {r : Passed Stage} {after : List ℕ} (p : Passes asked stage held ended r after) (ys : List ℕ) (alive : Alive stage) where
   left-length : length (held ++ ys) ≡ r.used + length (drop r.used held ++ ys)
   left-length =
       omega (arith, length-append held ys, length-append (drop r.used held) ys, length-drop r.used held, p.within)

@@ -1,5 +1,6 @@
 -- Laws of a listing that arrives in parts, for the proofs here and in the crates above.
 pub mod Stepping
+pub mod Onward
 pub mod Passing
 pub mod Streaming
 pub mod Running

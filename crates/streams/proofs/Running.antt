@@ -132,7 +132,7 @@ last_said asked false (Skip left size version) held reads alive none go_on r = a
 last_said asked false Done held reads alive none go_on r = ap last_line r.next_is
 
 -- a pass, and what comes after it
-module _ {asked : Asked} {stage : Stage} {held : List ℕ} {ended : Bool} {r : Passed} {after : List ℕ} (p : Passes asked stage held ended r after) where
+module _ {asked : Asked} {stage : Stage} {held : List ℕ} {ended : Bool} {r : Passed Stage} {after : List ℕ} (p : Passes asked stage held ended r after) where
   silent : {next : Next} → r.next ≡ next → last_line next ≡ [] → take r.out after ≡ p.says
   silent e n = p.text ∙ ap (λ (u : List ℕ). p.says ++ u) (ap last_line e ∙ n) ∙ append-nil p.says
 

@@ -12,6 +12,9 @@ use Rattle.text.proofs.Choosing.{cond_by}
 use Rattle.text.specs.Code.{Put}
 use Rattle.text.proofs.Putting.{put_as}
 use Rattle.answers.specs.Refusals.{mode as mode_number, length as length_number, answer_of}
+use Rattle.std.specs.Prelude.{Option}
+use Rattle.answers.specs.declared.Reason.{Reason}
+use Rattle.answers.specs.Reasons.{answer_as}
 use Rattle.answers.specs.Lines.{refused_line}
 use Rattle.answers.proofs.Lines.{refused_most}
 use Rattle.frames.specs.Numbers.{byte, word}
@@ -36,7 +39,7 @@ unfolding text_of
 listed_short asked body = record_line_short asked body
 
 -- the code's step, from the definition's and from what was put
-pub took : {t : Taken} {r : Step} {says before : List ℕ} {out : ℕ} {after : List ℕ} → t ≡ record { stage = r.stage; used = r.used; says = says; records = r.records; refused = r.refused } → Put before out says r.out after → Took t before out r after
+pub took : {t : Taken} {r : Step Stage} {says before : List ℕ} {out : ℕ} {after : List ℕ} → t ≡ record { stage = r.stage; used = r.used; says = says; records = r.records; refused = r.refused } → Put before out says r.out after → Took t before out r after
 took e put =
     record {
       stage_is = ap (λ (t : Taken). t.stage) (sym e);
@@ -47,7 +50,7 @@ took e put =
     }
 
 -- a step under another name
-pub took_as : {t u : Taken} {before : List ℕ} {out : ℕ} {r : Step} {after : List ℕ} → t ≡ u → Took t before out r after → Took u before out r after
+pub took_as : {t u : Taken} {before : List ℕ} {out : ℕ} {r : Step Stage} {after : List ℕ} → t ≡ u → Took t before out r after → Took u before out r after
 took_as e s =
     record {
       stage_is = s.stage_is ∙ ap (λ (t : Taken). t.stage) e;
@@ -180,9 +183,9 @@ bounded asked (Skip left size version) xs alive =
 bounded asked Done xs alive = quiet xs Done (length xs) (omega arith) tt (λ z. omega (arith, z))
 
 -- a whole frame's step, from what was put of its record
-pub whole_took : (version : ℕ) (asked : Asked) (xs : List ℕ) (k : ℕ) {told : Asked} {n number refused : ℕ} {before : List ℕ} {out next : ℕ} {after : List ℕ} → told ≡ in_version version asked → n ≡ word xs 0 → 2 ≤ length xs → n ≤ longest_body → 2 + n ≤ length xs → k ≡ n → Puts false told (take k (drop 2 xs)) before out number next after → refused ≡ refused_by number → Took (frame_step version asked xs) before out (record { stage = Frames version; used = 2 + n; out = next; records = 1; refused = refused }) after
+pub whole_took : (version : ℕ) (asked : Asked) (xs : List ℕ) (k : ℕ) {told : Asked} {n refused : ℕ} {why : Option Reason} {before : List ℕ} {out next : ℕ} {after : List ℕ} → told ≡ in_version version asked → n ≡ word xs 0 → 2 ≤ length xs → n ≤ longest_body → 2 + n ≤ length xs → k ≡ n → Puts false told (take k (drop 2 xs)) before out why next after → refused ≡ refused_by (answer_as why) → Took (frame_step version asked xs) before out (record { stage = Frames version; used = 2 + n; out = next; records = 1; refused = refused }) after
 unfolding text_of
-whole_took version asked xs k {told} {n} {number} {refused} t e two short all same puts by =
+whole_took version asked xs k {told} {n} {refused} t e two short all same puts by =
     took (frame_whole version asked xs e two short all ∙ ap (λ (m : ℕ). ended (Frames version) (2 + n) (record_line (in_version version asked) (take n (drop 2 xs))) m) counted)
     (put_as (ap₂ (λ (a : Asked) (j : ℕ). record_line a (take j (drop 2 xs))) t same) puts.put)
   where

@@ -12,7 +12,7 @@ use Rattle.streams.specs.declared.Step.{Step}
 use Rattle.streams.specs.Stream.{Taken, skipped}
 
 -- the code's step is that step
-pub record Took (t : Taken) (before : List ℕ) (out : ℕ) (step : Step) (after : List ℕ) : Type 0 where
+pub record Took (t : Taken) (before : List ℕ) (out : ℕ) (step : Step Stage) (after : List ℕ) : Type 0 where
   pub stage_is : step.stage ≡ t.stage
   pub used_is : step.used ≡ t.used
   pub records_is : step.records ≡ t.records

@@ -33,6 +33,10 @@ last_line Whole = []
 last_line Cut = cut_line
 last_line Unknown = []
 
+-- no step uses any of the bytes held, which are few
+abbrev pub Unused : Asked → Stage → List ℕ → Type 0
+Unused asked stage held = ((stepped asked stage held).used ≡ 0) × (length held ≤ longest_body + 1)
+
 -- What comes next: where the text is full, some bytes were used; else no step uses any of the bytes held, which are few.
 pub record Rests (asked : Asked) (ended : Bool) (stage : Stage) (held : List ℕ) (next : Next) : Type 0 where
   pub unused : (stepped asked stage held).used ≡ 0
@@ -45,7 +49,7 @@ pub data Follows (asked : Asked) (ended : Bool) (stage : Stage) (held : List ℕ
 
 -- what a pass promises: it takes steps; what they say, and the last line, stands at the start of the text; what is held then is what
 -- it did not use; and the stage is one from which it can go on
-pub record Passes (asked : Asked) (stage : Stage) (held : List ℕ) (ended : Bool) (r : Passed) (after : List ℕ) : Type 0 where
+pub record Passes (asked : Asked) (stage : Stage) (held : List ℕ) (ended : Bool) (r : Passed Stage) (after : List ℕ) : Type 0 where
   pub says : List ℕ
   pub steps : Steps asked stage held says r.stage (drop r.used held) r.records r.refused
   pub text : take r.out after ≡ says ++ last_line r.next

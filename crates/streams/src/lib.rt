@@ -2,6 +2,7 @@
 #![tactic(auto)]
 
 pub mod pass;
+pub mod stages;
 pub mod stream;
 
 // How far a listing has come that arrives in parts: nothing yet, at a frame's start, in a body that is too long for any record
@@ -21,11 +22,11 @@ pub enum Stage {
     Done,
 }
 
-// One step of it: the stage then, how many bytes it used, the next place of the text, and how many frames it saw the end of (one or
-// none), and how many of these are refused.
+// One step from a stage: the stage then, how many bytes it used, the next place of the text, and how many frames it saw the end of (one
+// or none), and how many of these are refused.
 #[derive(Clone, Copy)]
-pub struct Step {
-    pub stage: Stage,
+pub struct Step<S> {
+    pub stage: S,
     pub used: usize,
     pub out: usize,
     pub records: usize,
@@ -45,8 +46,8 @@ pub enum Next {
 
 // What a pass comes to: the stage then, how many bytes it used, the place after its lines, its counts, and what comes next.
 #[derive(Clone, Copy)]
-pub struct Passed {
-    pub stage: Stage,
+pub struct Passed<S> {
+    pub stage: S,
     pub used: usize,
     pub out: usize,
     pub records: usize,

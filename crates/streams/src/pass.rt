@@ -1,40 +1,17 @@
 // What happens between two calls of the system, as one function: steps, one after the other, and their lines.
 ghost use Rattle.std.specs.Prelude.{◌≡◌, ◌+◌, ◌≤◌, length};
 ghost use Rattle.text.specs.Code.{Put};
-ghost use Rattle.names.specs.Opcodes.{MnemonicTable, ArmTable};
-ghost use Rattle.names.specs.Registers.{RegisterTable};
-ghost use Rattle.names.specs.Labels.{LabelTable};
 ghost use Rattle.lines.specs.Text.{longest_line};
 ghost use Rattle.streams.specs.Stream.{Alive};
-ghost use Rattle.streams.specs.Pass.{Passes, next_at, last_line};
+ghost use Rattle.streams.specs.Pass.{Passes, Steps, Unused, next_at, last_line};
+ghost use Rattle.streams.specs.Ways.{longest_room, way_none, way_then};
 
+use crate::stages::{self, Stages};
 use crate::stream::step;
-use crate::{Next, Passed, Stage};
+use crate::{Next, Passed, Stage, Step};
 use lines::LONGEST_LINE;
-use names::{labels, opcodes, registers};
+use names::Tables;
 use records::Asked;
-
-// What comes next where no step uses any of the bytes that are held.
-fn next_at(ended: bool, stage: Stage, held: usize) -> Next
-    ensures { result ≡ next_at ended stage held }
-{
-    match stage {
-        Stage::Version => { if ended { Next::Cut } else { Next::Read } }
-        Stage::Frames { version } => {
-            if ended {
-                if 0 < held { Next::Cut } else { Next::Whole }
-            } else {
-                Next::Read
-            }
-        }
-        Stage::Skip {
-            left,
-            size,
-            version,
-        } => { if ended { Next::Cut } else { Next::Read } }
-        Stage::Done => Next::Unknown,
-    }
-}
 
 // The last line, where there is one.
 pub fn put_last(text: &mut [u8], out: usize, next: Next) -> usize
@@ -50,74 +27,69 @@ pub fn put_last(text: &mut [u8], out: usize, next: Next) -> usize
     }
 }
 
+impl Stages for Stage {
+    const ROOM: usize = LONGEST_LINE + 1;
+
+    ghost ROOM = { longest_line + 1 };
+
+    ghost way = { Steps };
+
+    ghost unused = { Unused };
+
+    ghost alive = { Alive };
+
+    ghost next_from = { next_at };
+
+    fn step(
+        self,
+        tables: &Tables,
+        input: &[u8],
+        asked: Asked,
+        text: &mut [u8],
+        out: usize,
+    ) -> Step<Self> {
+        step(tables, self, input, asked, text, out)
+    }
+
+    fn next_at(self, ended: bool, held: usize) -> Next {
+        match self {
+            Stage::Version => { if ended { Next::Cut } else { Next::Read } }
+            Stage::Frames { version } => {
+                if ended {
+                    if 0 < held { Next::Cut } else { Next::Whole }
+                } else {
+                    Next::Read
+                }
+            }
+            Stage::Skip {
+                left,
+                size,
+                version,
+            } => { if ended { Next::Cut } else { Next::Read } }
+            Stage::Done => Next::Unknown,
+        }
+    }
+
+    ghost enough = { longest_room };
+
+    ghost none = { λ asked stage held. way_none };
+
+    ghost then = { λ asked stage held says now left a b more last rest c d one other. way_then one other };
+}
+
 // Takes steps with the bytes that are there and puts their lines into the text from its start: until no step uses any, or there is
 // no room for the longest line. Where the input has ended, `; cut` is said here too.
 pub fn pass(
-    name_letters: &opcodes::Letters,
-    name_starts: &opcodes::Starts,
-    register_letters: &registers::Letters,
-    register_starts: &registers::Starts,
-    label_letters: &labels::Letters,
-    label_starts: &labels::Starts,
-    arms: &opcodes::Arms,
+    tables: &Tables,
     stage: Stage,
     input: &[u8],
     ended: bool,
     asked: Asked,
     text: &mut [u8],
-) -> Passed
-    requires mnemonic_table { MnemonicTable name_letters.now name_starts.now }
-    requires register_table { RegisterTable register_letters.now register_starts.now }
-    requires label_table { LabelTable label_letters.now label_starts.now }
-    requires arm_table { ArmTable arms.now }
+) -> Passed<Stage>
     requires alive { Alive stage }
     requires longest_line_in_bounds { longest_line + 1 ≤ length text.old }
     ensures { Passes asked stage input.now ended result text.new }
 {
-    let mut stage = stage;
-    let mut at = 0;
-    let mut out = 0;
-    let mut records = 0;
-    let mut refused = 0;
-    while LONGEST_LINE < text.len() - out {
-        let taken = step(
-            name_letters,
-            name_starts,
-            register_letters,
-            register_starts,
-            label_letters,
-            label_starts,
-            arms,
-            stage,
-            &input[at..],
-            asked,
-            text,
-            out,
-        );
-        if taken.used == 0 {
-            let next = next_at(ended, stage, input.len() - at);
-            let out = put_last(text, out, next);
-            return Passed {
-                stage,
-                used: at,
-                out,
-                records,
-                refused,
-                next,
-            };
-        }
-        stage = taken.stage;
-        at += taken.used;
-        out = taken.out;
-        records += taken.records;
-        refused += taken.refused;
-    }
-    Passed {
-        stage,
-        used: at,
-        out,
-        records,
-        refused,
-        next: Next::Full,
-    }
+    stages::pass(tables, stage, input, ended, asked, text)
 }

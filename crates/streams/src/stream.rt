@@ -2,22 +2,20 @@
 // any that is right is refused by what is asked or by its length alone, so its bytes are only counted.
 ghost use Rattle.std.specs.Prelude.{◌≡◌, ◌+◌, ◌≤◌, length};
 ghost use Rattle.text.specs.Code.{Room, Put};
-ghost use Rattle.names.specs.Opcodes.{MnemonicTable, ArmTable};
-ghost use Rattle.names.specs.Registers.{RegisterTable};
-ghost use Rattle.names.specs.Labels.{LabelTable};
+ghost use Rattle.answers.specs.Reasons.{number_of, answer_as};
 ghost use Rattle.lines.specs.Text.{longest_line};
 ghost use Rattle.streams.specs.Stream.{version_step, skip_step, frame_step, stepped, skipped, refused_by, Alive, begun_of};
 ghost use Rattle.streams.specs.Code.{Took};
 
 use crate::{Stage, Step};
-use answers::{LENGTH, MODE, PRINTED};
+use answers::Reason;
 use bodies::rules::LONGEST_BODY;
-use names::{labels, opcodes, registers};
+use names::Tables;
 use records::Asked;
 use records::judge::{asked_refused, in_version};
 use records::put::put_record;
 
-fn step_version(input: &[u8], text: &mut [u8], out: usize) -> Step
+fn step_version(input: &[u8], text: &mut [u8], out: usize) -> Step<Stage>
     requires { out + longest_line + 1 ≤ length text.old }
     ensures { Took (version_step input.now) text.old out result text.new }
 {
@@ -51,10 +49,14 @@ fn step_version(input: &[u8], text: &mut [u8], out: usize) -> Step
 }
 
 // A body that is too long for any record is refused by its length, unless what is asked is refused: that is asked first.
-fn skipped_number(asked: Asked) -> u8
-    ensures { result ≡ skipped asked }
+fn skipped_for(asked: Asked) -> Reason
+    ensures { number_of result ≡ skipped asked }
 {
-    if asked_refused(asked) { MODE } else { LENGTH }
+    if asked_refused(asked) {
+        Reason::Mode
+    } else {
+        Reason::Length
+    }
 }
 
 fn step_skip(
@@ -65,7 +67,7 @@ fn step_skip(
     asked: Asked,
     text: &mut [u8],
     out: usize,
-) -> Step
+) -> Step<Stage>
     requires { out + longest_line + 1 ≤ length text.old }
     ensures { Took (skip_step left size version asked input.now) text.old out result text.new }
 {
@@ -83,7 +85,7 @@ fn step_skip(
             refused: 0,
         };
     }
-    let next = answers::put_refused(text, out, skipped_number(in_version(version, asked)));
+    let next = answers::put_refused(text, out, skipped_for(in_version(version, asked)).number());
     Step {
         stage: Stage::Frames { version },
         used: left,
@@ -93,31 +95,24 @@ fn step_skip(
     }
 }
 
-// A frame is refused, or not, by its record's answer.
-pub fn refused_by(number: u8) -> usize
-    ensures { result ≡ refused_by number }
+// A frame is refused, or not, as its record is.
+pub fn refused_by(refused: Option<Reason>) -> usize
+    ensures { result ≡ refused_by (answer_as refused) }
 {
-    if number == PRINTED { 0 } else { 1 }
+    match refused {
+        None => 0,
+        Some(_) => 1,
+    }
 }
 
 fn step_frame(
-    name_letters: &opcodes::Letters,
-    name_starts: &opcodes::Starts,
-    register_letters: &registers::Letters,
-    register_starts: &registers::Starts,
-    label_letters: &labels::Letters,
-    label_starts: &labels::Starts,
-    arms: &opcodes::Arms,
+    tables: &Tables,
     version: u32,
     input: &[u8],
     asked: Asked,
     text: &mut [u8],
     out: usize,
-) -> Step
-    requires mnemonic_table { MnemonicTable name_letters.now name_starts.now }
-    requires register_table { RegisterTable register_letters.now register_starts.now }
-    requires label_table { LabelTable label_letters.now label_starts.now }
-    requires arm_table { ArmTable arms.now }
+) -> Step<Stage>
     requires longest_line_in_bounds { out + longest_line + 1 ≤ length text.old }
     ensures { Took (frame_step version asked input.now) text.old out result text.new }
 {
@@ -155,13 +150,7 @@ fn step_frame(
         };
     }
     let placed = put_record(
-        name_letters,
-        name_starts,
-        register_letters,
-        register_starts,
-        label_letters,
-        label_starts,
-        arms,
+        tables,
         &input[2..end],
         in_version(version, asked),
         false,
@@ -173,47 +162,24 @@ fn step_frame(
         used: end,
         out: placed.out,
         records: 1,
-        refused: refused_by(placed.number),
+        refused: refused_by(placed.refused),
     }
 }
 
 pub fn step(
-    name_letters: &opcodes::Letters,
-    name_starts: &opcodes::Starts,
-    register_letters: &registers::Letters,
-    register_starts: &registers::Starts,
-    label_letters: &labels::Letters,
-    label_starts: &labels::Starts,
-    arms: &opcodes::Arms,
+    tables: &Tables,
     stage: Stage,
     input: &[u8],
     asked: Asked,
     text: &mut [u8],
     out: usize,
-) -> Step
-    requires mnemonic_table { MnemonicTable name_letters.now name_starts.now }
-    requires register_table { RegisterTable register_letters.now register_starts.now }
-    requires label_table { LabelTable label_letters.now label_starts.now }
-    requires arm_table { ArmTable arms.now }
+) -> Step<Stage>
     requires longest_line_in_bounds { out + longest_line + 1 ≤ length text.old }
     ensures { Took (stepped asked stage input.now) text.old out result text.new }
 {
     match stage {
         Stage::Version => step_version(input, text, out),
-        Stage::Frames { version } => step_frame(
-            name_letters,
-            name_starts,
-            register_letters,
-            register_starts,
-            label_letters,
-            label_starts,
-            arms,
-            version,
-            input,
-            asked,
-            text,
-            out,
-        ),
+        Stage::Frames { version } => step_frame(tables, version, input, asked, text, out),
         Stage::Skip {
             left,
             size,

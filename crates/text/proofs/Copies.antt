@@ -1,53 +1,17 @@
 -- A word put by two copies of the same number of letters, the first letters and the last, which may overlap.
 -- Assumes nothing.
 use mathlib.Core.Path.{◌≡◌, sym, ap, ◌∙◌}
-use mathlib.Core.List.{List, [], ◌∷◌, ◌++◌}
-use Prim.Native.Nat.{ℕ, zero, suc, ◌+◌, ◌-◌, ◌≤◌, ◌<◌}
+use mathlib.Core.List.{List, ◌++◌}
+use Prim.Native.Nat.{ℕ, ◌+◌, ◌-◌, ◌≤◌}
 use native.Mathlib.Nat.{add-sub_cancel_left}
 use native.Mathlib.Omega.{arith}
-use lib.ListN.{length, get_or, set, take, drop, length-append, length-drop, length-set}
-use lib.Seq.{take-add, take-suc, drop-drop, drop-cons, get_or-drop}
+use lib.ListN.{length, get_or, take, drop, length-append}
+use lib.Seq.{take-add, drop-drop}
 use Rattle.text.specs.Write.{write}
 use Rattle.text.specs.Code.{Room, Put}
 use Rattle.text.specs.Code.{part, word_at, Stands}
-use Rattle.text.proofs.Writing.{length-write, write_byte, write_next, write_over}
+use Rattle.text.proofs.Writing.{length-write, write_over}
 use Rattle.text.proofs.Tables.{length_part, length-word}
-
-part_one : (letters : List ℕ) (from : ℕ) → from < length letters → part letters from (from + 1) ≡ get_or letters from 0 ∷ []
-unfolding part
-part_one letters from h = rw (add-sub_cancel_left from 1, drop-cons letters from 0 h)
-
-part_more : (letters : List ℕ) (from n : ℕ) → from + n < length letters → part letters from (from + suc n) ≡ part letters from (from + n) ++ (get_or letters (from + n) 0 ∷ [])
-unfolding part
-part_more letters from n h =
-    rw (add-sub_cancel_left from (suc n), add-sub_cancel_left from n, ← get_or-drop from letters n 0)
-    (take-suc (drop from letters) n 0 (rw length-drop (omega arith)))
-
-module _ (xs : List ℕ) (at : ℕ) (letters : List ℕ) (from : ℕ) where
-  -- the letters at an offset and up to the n-th after it, stored one after the other
-  abbrev pub stored : ℕ → List ℕ
-  stored zero = set xs at (get_or letters from 0)
-  stored (suc n) = set (stored n) (at + suc n) (get_or letters (from + suc n) 0)
-
-  pub stored_length : (n : ℕ) → length (stored n) ≡ length xs
-  stored_length zero = length-set xs at (get_or letters from 0)
-  stored_length (suc n) = length-set (stored n) (at + suc n) (get_or letters (from + suc n) 0) ∙ stored_length n
-
-  pub stored_within : (n : ℕ) {k : ℕ} → k < length xs → k < length (stored n)
-  stored_within n h = rw (stored_length n) h
-
-  -- they are written
-  pub stored_written : (n : ℕ) → from + suc n ≤ length letters → at + suc n ≤ length xs → stored n ≡ write xs at (part letters from (from + suc n))
-  stored_written zero h room =
-      write_byte xs at (get_or letters from 0) (omega arith) ∙ ap (write xs at) (sym (part_one letters from (omega arith)))
-  stored_written (suc n) h room =
-      let s = part letters from (from + suc n) in
-      let size : length s ≡ suc n = length_part letters from (from + suc n) (omega arith) ∙ add-sub_cancel_left from (suc n) in
-      let b = get_or letters (from + suc n) 0 in
-      ap (λ (ys : List ℕ). set ys (at + suc n) b) (stored_written n (omega arith) (omega arith))
-      ∙ ap (λ (k : ℕ). set (write xs at s) (at + k) b) (sym size)
-      ∙ write_next xs at s b (rw size (omega arith))
-      ∙ ap (write xs at) (sym (part_more letters from (suc n) (omega arith)))
 
 -- two parts, one after the other
 part-part : (letters : List ℕ) {from middle to : ℕ} → from ≤ middle → middle ≤ to → part letters from middle ++ part letters middle to ≡ part letters from to

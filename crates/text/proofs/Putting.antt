@@ -2,11 +2,10 @@
 -- Assumes nothing.
 use mathlib.Core.Path.{◌≡◌, refl, sym, ap, subst, ◌∙◌}
 use mathlib.Core.List.{List, [], ◌∷◌, ◌++◌}
-use Prim.Native.Nat.{ℕ, ◌+◌}
+use Prim.Native.Nat.{ℕ, ◌+◌, ◌≤◌}
 use native.Mathlib.Nat.{add-zero}
 use native.Mathlib.Omega.{arith}
-use lib.ListN.{length, set, take, length-append}
-use lib.Seq.{take-length}
+use lib.ListN.{length, set, length-append}
 use Rattle.text.specs.Write.{write}
 use Rattle.text.specs.Code.{Room, Put}
 use Rattle.text.proofs.Writing.{write_none, write_byte, length-write, write-write}
@@ -40,11 +39,6 @@ put_none {xs} {at} = record { next = sym (add-zero at); text = sym (write_none x
 pub put_stored : {xs : List ℕ} {at b : ℕ} → Room xs at (b ∷ []) → Put xs at (b ∷ []) (at + 1) (set xs at b)
 put_stored {xs} {at} {b} room = record { next = refl; text = write_byte xs at b (omega (arith, room.fits)) }
 
--- a loop from the front has written the whole text
-pub put_whole : {xs : List ℕ} {at : ℕ} {t : List ℕ} {i : ℕ} {ys : List ℕ} → i ≡ length t → ys ≡ write xs at (take i t) → Put xs at t (at + i) ys
-put_whole {xs} {at} {t} {i} end written =
-    record { next = ap (λ (n : ℕ). at + n) end; text = written ∙ ap (write xs at) (ap (λ (n : ℕ). take n t) end ∙ take-length t) }
-
 -- room for a text, and its put, under another name of the same text
 pub room_as : {xs : List ℕ} {at : ℕ} {s t : List ℕ} → s ≡ t → Room xs at s → Room xs at t
 room_as {xs} {at} e room = subst (λ (u : List ℕ). Room xs at u) e room
@@ -69,3 +63,11 @@ left_none l = l.ends put_none
 -- the same under another name
 pub left_as : {start : List ℕ} {from : ℕ} {whole xs : List ℕ} {at : ℕ} {s t : List ℕ} → s ≡ t → Left start from whole xs at s → Left start from whole xs at t
 left_as e l = record { room = room_as e l.room; ends = λ put. l.ends (put_as (sym e) put) }
+
+-- what a tactic needs of texts that are put one behind the other, with the second's place under a name of its own
+pub write_then :
+    (xs : List ℕ) (at : ℕ) (s t : List ℕ) (m : ℕ) → at + length s ≤ length xs → m ≡ at + length s →
+    write (write xs at s) m t ≡ write xs at (s ++ t)
+write_then xs at s t m room e = rw e (write-write xs at s room t)
+
+pub ruleset putting = (write_then, write_none, length-append)

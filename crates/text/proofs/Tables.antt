@@ -3,7 +3,7 @@
 use mathlib.Core.Path.{◌≡◌, refl, sym, ap, ◌∙◌}
 use mathlib.Core.Bool.{Bool, true, false, ◌&&◌, ◌||◌, not}
 use mathlib.Core.List.{List, [], ◌∷◌, ◌++◌, append_assoc}
-use Prim.Native.Nat.{ℕ, zero, suc, suc-le-suc, ◌+◌, ◌-◌, ◌≤◌, ◌<◌}
+use Prim.Native.Nat.{ℕ, zero, suc, ◌+◌, ◌-◌, ◌≤◌, ◌<◌}
 use native.Mathlib.Nat.{le_of_suc-le-suc, not-suc-le-zero, add-sub_cancel_left, zero-add}
 use native.Mathlib.Numerals.{add-one}
 use native.Mathlib.Omega.{arith}
@@ -11,7 +11,7 @@ use lib.Dec.{T, T_not, eqb, eqb_refl, leb, leb→le}
 use lib.ListN.{length, get_or, drop, length-append, length-drop, get_or-eq_default}
 use lib.Seq.{length-take-le, take-append_seam, drop-append_seam}
 use Rattle.text.specs.Code.{Room, Put}
-use Rattle.text.specs.Words.{join, starts, Table, every, same, among, empty, distinct}
+use Rattle.text.specs.Words.{join, starts, every, same, among, empty, distinct}
 use Rattle.text.specs.Code.{part, word_at, Stands}
 use Rattle.text.proofs.Putting.{room_as, put_as, put_none}
 
@@ -110,29 +110,31 @@ starts-length : (from : ℕ) (ws : List (List ℕ)) → length (starts from ws) 
 starts-length from [] = refl
 starts-length from (w ∷ ws) = ap suc (starts-length (from + length w) ws)
 
--- in a table as the code holds it, each word stands at its place
-module _ {ws : List (List ℕ)} {letters offsets : List ℕ} (t : Table ws letters offsets) (k : ℕ) (h : k < length ws) where
-  pub stands : Stands letters offsets k
-  stands =
-      record {
-        there = rw (t.places, add-one, starts-length 0 ws) (suc-le-suc h);
-        ordered = rw (t.places, add-one) (offsets_in 0 ws k h).0;
-        within = rw (t.text, t.places, add-one) (rw zero-add at (offsets_in 0 ws k h).1);
-      }
+-- the words, as one text with an offset for each
+module _ (ws : List (List ℕ)) {letters offsets : List ℕ} (text : letters ≡ join ws) (places : offsets ≡ starts 0 ws) where
+  pub counted : length offsets ≡ suc (length ws)
+  counted = ap length places ∙ starts-length 0 ws
 
-  pub word_is : word_at letters offsets k ≡ get_or ws k []
-  unfolding word_at
-  word_is = rw (t.text, t.places, add-one) (word_from [] ws k h)
+  -- each word stands at its place
+  module _ (k : ℕ) (h : k < length ws) where
+    pub stands : Stands letters offsets k
+    stands =
+        record {
+          there = omega (arith, counted);
+          ordered = rw (places, add-one) (offsets_in 0 ws k h).0;
+          within = rw (text, places, add-one) (rw zero-add at (offsets_in 0 ws k h).1);
+        }
 
-  -- what `put_word` asks and gives, said of the word itself
-  pub word-asked : {xs : List ℕ} {at : ℕ} → Room xs at (get_or ws k []) → (Stands letters offsets k) × (Room xs at (word_at letters offsets k))
-  word-asked room = (stands, room_as (sym word_is) room)
+    pub word_is : word_at letters offsets k ≡ get_or ws k []
+    unfolding word_at
+    word_is = rw (text, places, add-one) (word_from [] ws k h)
 
-  pub word_put : {xs : List ℕ} {at r : ℕ} {ys : List ℕ} → Put xs at (word_at letters offsets k) r ys → Put xs at (get_or ws k []) r ys
-  word_put put = put_as word_is put
+    -- what `put_word` asks and gives, said of the word itself
+    pub room-asked : {xs : List ℕ} {at : ℕ} → Room xs at (get_or ws k []) → Room xs at (word_at letters offsets k)
+    room-asked room = room_as (sym word_is) room
 
-  pub word-length : {r : ℕ} → r ≡ length (word_at letters offsets k) → r ≡ length (get_or ws k [])
-  word-length e = e ∙ ap length word_is
+    pub word_put : {xs : List ℕ} {at r : ℕ} {ys : List ℕ} → Put xs at (word_at letters offsets k) r ys → Put xs at (get_or ws k []) r ys
+    word_put put = put_as word_is put
 
 -- past the table's end there is no word
 pub no_word : (ws : List (List ℕ)) {k : ℕ} → length ws ≤ k → get_or ws k [] ≡ []

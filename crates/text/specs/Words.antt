@@ -1,6 +1,6 @@
 -- Quoted words as bytes, and a table of words held as one text with an offset for each word.
 -- Assumes nothing.
-use Rattle.std.specs.Prelude.{◌≡◌, List, [], ◌∷◌, ◌++◌, Bool, true, false, not, ◌&&◌, ◌||◌, ℕ, ◌+◌, eqb, ltb, length}
+use Rattle.std.specs.Prelude.{List, [], ◌∷◌, ◌++◌, Bool, true, false, not, ◌&&◌, ◌||◌, ℕ, ◌+◌, eqb, ltb, length}
 use Prim.Native.String.{String, [] as ▪, ◌∷◌ as ◌▸◌}
 use Prim.Native.Char.{code}
 
@@ -18,11 +18,6 @@ join (w ∷ ws) = w ++ join ws
 abbrev pub starts : ℕ → List (List ℕ) → List ℕ
 starts from [] = from ∷ []
 starts from (w ∷ ws) = from ∷ starts (from + length w) ws
-
--- a table as the code holds it: the words as one text, and where each starts
-pub record Table (words : List (List ℕ)) (letters offsets : List ℕ) : Type 0 where
-  pub text : letters ≡ join words
-  pub places : offsets ≡ starts 0 words
 
 -- The tests of a table, each computed once over the whole table.
 

@@ -21,12 +21,9 @@ pub fn put_bytes(buf: &mut [u8], at: usize, t: &[u8]) -> usize
     requires { Room buf.old at t.now }
     ensures { Put buf.old at t.now result buf.new }
 {
-    let mut i = 0;
-    while i < t.len() {
-        buf[at + i] = t[i];
-        i += 1;
-    }
-    at + i
+    let end = at + t.len();
+    buf[at..end].copy_from_slice(t);
+    end
 }
 
 // A text at a place, where it is called for.

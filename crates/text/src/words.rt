@@ -1,59 +1,79 @@
-// A word of a table that is held as one text with an offset for each word.
-ghost use Rattle.std.specs.Prelude.{◌≡◌, ◌+◌, ◌≤◌, length};
+// A table of words, held as one text with an offset for each word.
+ghost use Rattle.std.specs.Prelude.{◌≡◌, ◌+◌, ◌≤◌, ◌<◌, List, [], ℕ, length, get_or};
+ghost use Rattle.text.specs.Words.{join, starts as starts_of};
 ghost use Rattle.text.specs.Write.{write};
 ghost use Rattle.text.specs.Code.{Room, Put};
 ghost use Rattle.text.specs.Code.{part, Stands, word_at};
 
 use crate::put_bytes;
+use std::marker::PhantomData;
 
-// Two, four or eight letters from an offset on.
-pub fn copy_2(buf: &mut [u8], at: usize, letters: &[u8], from: usize)
-    requires from_in_bounds { from + 2 ≤ length letters.now }
-    requires at_in_bounds { at + 2 ≤ length buf.old }
-    ensures { buf.new ≡ write buf.old at (part letters.now from (from + 2)) }
-{
-    let a = letters[from];
-    let b = letters[from + 1];
-    buf[at] = a;
-    buf[at + 1] = b;
+// Whose words a table holds.
+pub trait Words {
+    ghost words: { List (List ℕ) };
 }
 
-fn copy_4(buf: &mut [u8], at: usize, letters: &[u8], from: usize)
-    requires from_in_bounds { from + 4 ≤ length letters.now }
-    requires at_in_bounds { at + 4 ≤ length buf.old }
-    ensures { buf.new ≡ write buf.old at (part letters.now from (from + 4)) }
-{
-    let a = letters[from];
-    let b = letters[from + 1];
-    let c = letters[from + 2];
-    let d = letters[from + 3];
-    buf[at] = a;
-    buf[at + 1] = b;
-    buf[at + 2] = c;
-    buf[at + 3] = d;
+// The words as one text, and where each of them starts: one offset more than there are words.
+#[derive(Drop)]
+pub struct Table<W: Words, const LETTERS: usize, const STARTS: usize> {
+    letters: [u8; LETTERS],
+    starts: [u16; STARTS],
+    of: PhantomData<W>,
+    ghost text: { letters ≡ join W.words },
+    ghost places: { starts ≡ starts_of 0 W.words },
 }
 
-fn copy_8(buf: &mut [u8], at: usize, letters: &[u8], from: usize)
-    requires from_in_bounds { from + 8 ≤ length letters.now }
-    requires at_in_bounds { at + 8 ≤ length buf.old }
-    ensures { buf.new ≡ write buf.old at (part letters.now from (from + 8)) }
+impl<W: Words, const LETTERS: usize, const STARTS: usize> Table<W, LETTERS, STARTS> {
+    pub fn new(letters: [u8; LETTERS], starts: [u16; STARTS]) -> Self
+        requires text { letters ≡ join W.words }
+        requires places { starts ≡ starts_of 0 W.words }
+    {
+        Table {
+            letters,
+            starts,
+            of: PhantomData,
+        }
+    }
+
+    // The word at k. Past the last one there is none.
+    pub fn put(&self, buf: &mut [u8], at: usize, k: usize) -> usize
+        requires { Room buf.old at (get_or W.words k []) }
+        ensures { Put buf.old at (get_or W.words k []) result buf.new }
+    {
+        if self.starts.len() - 1 <= k {
+            return at;
+        }
+        put_word(buf, at, &self.letters, &self.starts, k)
+    }
+
+    // The same, with a word of two or three letters put right here, by two copies of two letters that may overlap: that saves a call.
+    pub fn put_short(&self, buf: &mut [u8], at: usize, k: usize) -> usize
+        requires { Room buf.old at (get_or W.words k []) }
+        ensures { Put buf.old at (get_or W.words k []) result buf.new }
+    {
+        if self.starts.len() - 1 <= k {
+            return at;
+        }
+        let from = self.starts[k] as usize;
+        let to = self.starts[k + 1] as usize;
+        let n = to - from;
+        if 2 <= n && n < 4 {
+            copy::<2>(buf, at, &self.letters, from);
+            copy::<2>(buf, at + n - 2, &self.letters, to - 2);
+            return at + n;
+        }
+        put_word(buf, at, &self.letters, &self.starts, k)
+    }
+}
+
+// N letters from an offset on. They are read as one value before any is stored, so that this is one load and one store.
+pub fn copy<const N: usize>(buf: &mut [u8], at: usize, letters: &[u8], from: usize)
+    requires from_in_bounds { from + N ≤ length letters.now }
+    requires at_in_bounds { at + N ≤ length buf.old }
+    ensures { buf.new ≡ write buf.old at (part letters.now from (from + N)) }
 {
-    let a = letters[from];
-    let b = letters[from + 1];
-    let c = letters[from + 2];
-    let d = letters[from + 3];
-    let e = letters[from + 4];
-    let f = letters[from + 5];
-    let g = letters[from + 6];
-    let h = letters[from + 7];
-    buf[at] = a;
-    buf[at + 1] = b;
-    buf[at + 2] = c;
-    buf[at + 3] = d;
-    buf[at + 4] = e;
-    buf[at + 5] = f;
-    buf[at + 6] = g;
-    buf[at + 7] = h;
+    let copied = *letters[from..from + N].as_array::<N>().unwrap();
+    buf[at..at + N].copy_from_slice(&copied);
 }
 
 // The word at k: one of 2 to 16 letters by two copies of one size, from its first letter on and up to its last, which may overlap.
@@ -69,18 +89,18 @@ pub fn put_word(buf: &mut [u8], at: usize, letters: &[u8], starts: &[u16], k: us
         return put_bytes(buf, at, &letters[from..to]);
     }
     if n < 4 {
-        copy_2(buf, at, letters, from);
-        copy_2(buf, at + n - 2, letters, to - 2);
+        copy::<2>(buf, at, letters, from);
+        copy::<2>(buf, at + n - 2, letters, to - 2);
         return at + n;
     }
     if n < 8 {
-        copy_4(buf, at, letters, from);
-        copy_4(buf, at + n - 4, letters, to - 4);
+        copy::<4>(buf, at, letters, from);
+        copy::<4>(buf, at + n - 4, letters, to - 4);
         return at + n;
     }
     if n <= 16 {
-        copy_8(buf, at, letters, from);
-        copy_8(buf, at + n - 8, letters, to - 8);
+        copy::<8>(buf, at, letters, from);
+        copy::<8>(buf, at + n - 8, letters, to - 8);
         return at + n;
     }
     put_bytes(buf, at, &letters[from..to])

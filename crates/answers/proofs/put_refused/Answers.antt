@@ -4,8 +4,6 @@ use Rattle.text.proofs.Putting.{first, rest, and_then}
 use Rattle.answers.specs.Lines.{newline, refused_line}
 use Rattle.answers.proofs.put_refused.Goals as goal
 
--- `answers::put_refused` meets its contract: what is said, and the newline.
--- Assumes nothing.
 pub put_refusal-next-requires : goal.put_refusal-next-requires
 unfolding refused_line
 put_refusal-next-requires c = record { n_bound = c.requires.n_bound; room = first newline c.requires.room }

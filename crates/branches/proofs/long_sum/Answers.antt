@@ -1,14 +1,11 @@
--- `branches::long_sum` meets its contract: at each return, what was called ensures and what was tested give the definition's case.
+-- `branches::long_sum` meets its contract: the cast reads the lowest 32 bits as signed.
 -- Assumes nothing.
-use Rattle.std.proofs.Common.{◌+◌, sym, ◌∙◌, arith}
-use Rattle.branches.proofs.Sums.{parted_low, parted_high}
+use Rattle.std.proofs.Common.{◌+◌, ◌∙◌, refl, w32}
+use Rattle.std.proofs.lemmas.Int.{to_z-of_z}
+use Rattle.branches.proofs.Sums.{signed_32, parted_by}
 use Rattle.branches.proofs.long_sum.Goals as goal
 
-pub returns-then-sum-lt2147483648 : goal.returns-then-sum-lt2147483648
-returns-then-sum-lt2147483648 c = let a = c.args in
-    c.forward.ensures ∙ sym (parted_low 32 (a.value + a.length) c.wrapping_add_u32-sum.result (omega arith) c.if-sum-lt2147483648.true)
-
-pub returns-else-sum-lt2147483648 : goal.returns-else-sum-lt2147483648
-returns-else-sum-lt2147483648 c = let a = c.args in
-    c.backward.ensures
-    ∙ sym (parted_high 32 (a.value + a.length) c.wrapping_add_u32-sum.result (omega arith) c.if-sum-lt2147483648.false (omega arith) _ (omega arith))
+pub returns : goal.returns
+returns c = let a = c.args in
+    let read = c.cast_signed-sum.ensures ∙ signed_32 (a.value + a.length) _ refl in
+    parted_by _ _ _ c.unsigned_abs.ensures.value (to_z-of_z w32 _ (record { sfits = c.cast_signed-sum.type_inv }) ∙ read)

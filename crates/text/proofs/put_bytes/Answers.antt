@@ -1,20 +1,9 @@
-use mathlib.Core.Path.{refl, sym}
+-- `text::put_bytes` meets its contract: a part of the buffer that is the text has been written.
+-- Assumes nothing.
+use mathlib.Core.Path.{refl}
 use native.Mathlib.Omega.{arith}
-use lib.ListN.{length-set}
-use Rattle.text.proofs.Writing.{write_none, write_more}
-use Rattle.text.proofs.Putting.{put_whole}
+use Rattle.text.proofs.Writing.{write_copied}
 use Rattle.text.proofs.put_bytes.Goals as goal
 
-pub loop-i-init : goal.loop-i-init
-loop-i-init c = (omega arith, refl, sym (write_none _ _))
-
-pub loop-i-preserved : goal.loop-i-preserved
-loop-i-preserved c = let a = c.args in
-    let l = c.loop-i in (
-      omega arith,
-      rw length-set l.invariant.1,
-      rw l.invariant.2 (write_more a.buf.now a.at a.t.now l.i c.requires.fits c.loop-i-test.true),
-    )
-
 pub returns : goal.returns
-returns c = put_whole (omega arith) c.loop-i.invariant.2
+returns c = record { next = refl; text = write_copied c.args.buf.now c.args.at (omega arith) c.copy_from_slice.ensures.after }

@@ -1,15 +1,8 @@
--- `bodies::numbers::signed_of` meets its contract: two complements give the bits back.
+-- `bodies::numbers::signed_of` meets its contract: the machine's reading of the bits is the signed number.
 -- Assumes nothing.
-use native.Mathlib.Omega.{arith}
-use mathlib.Core.Path.{◌≡◌}
+use mir.Facts.{sfits_to_z, to_z-of_z}
 use Rattle.bodies.proofs.Signed.{signed_to_z}
-use Prim.Native.Nat.{◌-◌, ◌^◌}
 use Rattle.bodies.proofs.numbers.signed_of.Goals as goal
 
-pub returns-then-bits-lt2147483648 : goal.returns-then-bits-lt2147483648
-returns-then-bits-lt2147483648 c = let a = c.args in rw (signed_to_z a.bits (omega arith))
-
-pub returns-else-bits-lt2147483648 : goal.returns-else-bits-lt2147483648
-returns-else-bits-lt2147483648 c = let a = c.args in
-    let back : (2 ^ 32 - 1) - ((2 ^ 32 - 1) - a.bits) ≡ a.bits = omega arith in
-    rw (signed_to_z a.bits (omega arith), back)
+pub returns : goal.returns
+returns c = rw (c.cast_signed.ensures, signed_to_z c.args.bits c.ranges.bits.fits) (to_z-of_z (sfits_to_z c.ranges.bits))

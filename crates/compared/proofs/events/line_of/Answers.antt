@@ -4,7 +4,7 @@ use Rattle.compared.proofs.EventTexts.{line-room, line_aside}
 use Rattle.compared.proofs.events.line_of.Goals as goal
 
 pub put_record-placed-requires : goal.put_record-placed-requires
-put_record-placed-requires c = record { mnemonic_table = c.requires.mnemonic_table; register_table = c.requires.register_table; label_table = c.requires.label_table; arm_table = c.requires.arm_table; room = line-room c.args.asked c.args.body.now c.requires.longest_line_in_bounds }
+put_record-placed-requires c = line-room c.args.asked c.args.body.now c.requires.longest_line_in_bounds
 
 pub returns : goal.returns
 returns c = line_aside c.args.asked c.args.body.now c.requires.longest_line_in_bounds c.put_record-placed.ensures.put

@@ -1,7 +1,6 @@
 -- `compared::events::put_differing` meets its contract: both lines aside, and then two puts.
 -- Assumes nothing.
 use mathlib.Core.Path.{sym}
-use native.Mathlib.Omega.{arith}
 use lib.Seq.{length-take-le}
 use Rattle.text.proofs.Putting.{first, rest, and_then, room_as, put_as}
 use Rattle.records.specs.Lines.{record_line}
@@ -10,12 +9,6 @@ use Rattle.compared.specs.Text.{kind_text}
 use Rattle.compared.specs.Code.{differing_text}
 use Rattle.compared.proofs.EventTexts.{kind_aside, differing-room}
 use Rattle.compared.proofs.events.put_differing.Goals as goal
-
-pub line_of-first_length-requires : goal.line_of-first_length-requires
-line_of-first_length-requires c = record { mnemonic_table = c.requires.mnemonic_table; register_table = c.requires.register_table; label_table = c.requires.label_table; arm_table = c.requires.arm_table; longest_line_in_bounds = omega arith }
-
-pub line_of-second_length-requires : goal.line_of-second_length-requires
-line_of-second_length-requires c = record { mnemonic_table = c.requires.mnemonic_table; register_table = c.requires.register_table; label_table = c.requires.label_table; arm_table = c.requires.arm_table; longest_line_in_bounds = omega arith }
 
 pub put_number-next-requires : goal.put_number-next-requires
 unfolding differing_text

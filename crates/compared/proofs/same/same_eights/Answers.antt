@@ -1,8 +1,7 @@
 use mathlib.Core.Path.{sym}
 use native.Mathlib.Omega.{arith}
-use lib.Seq.{ext_get_or}
 use borrow.Author.Count.{below_none}
-use Rattle.compared.proofs.SameBytes.{equal_same, unequal_same, eight_unequal, eight_more}
+use Rattle.compared.proofs.SameBytes.{unequal_same, eight_unequal, eight_more, eights_same}
 use Rattle.compared.proofs.same.same_eights.Goals as goal
 
 pub overflow_sub-last : goal.overflow_sub-last
@@ -29,8 +28,5 @@ eight_at-requires-2 c = omega (arith, c.requires.a_len, c.requires.in_bounds)
 pub eight_at-requires-3 : goal.eight_at-requires-3
 eight_at-requires-3 c = omega (arith, c.requires.in_bounds)
 
-pub returns-then-eight_at-2 : goal.returns-then-eight_at-2
-returns-then-eight_at-2 c = sym (unequal_same c.args.a.now c.args.b.now (eight_unequal c.eight_at-2.ensures c.eight_at-3.ensures c.if-eight_at-2.true))
-
 pub returns : goal.returns
-returns c = sym (equal_same c.args.a.now c.args.b.now (ext_get_or 0 c.args.a.now c.args.b.now c.requires.a_len (λ k l. eight_more c.eight_at-2.ensures c.eight_at-3.ensures c.if-eight_at-2.false (λ j m. c.loop-i.invariant.1 j (omega (arith, m, c.loop-i-test.false))) k (omega (arith, l, c.requires.a_len, c.requires.in_bounds)))))
+returns c = eights_same c.eight_at-2.ensures c.eight_at-3.ensures c.requires.a_len (omega (arith, c.requires.a_len, c.requires.in_bounds)) (λ k l. c.loop-i.invariant.1 k (omega (arith, l, c.loop-i-test.false)))

@@ -8,20 +8,20 @@ use Rattle.lines.proofs.Places.{branch_is, branch_other, text_branch, text_targe
 use Rattle.lines.proofs.place.put_branch.Goals as goal
 
 pub put_sum-requires : goal.put_sum-requires
-put_sum-requires c = room_as (ap shown_text (branch_is c.args.mode c.args.arm c.args.front.start (fields_by c.args.front c.args.rest.now) refl c.immediate_kind_at.ensures c.immediate_at.ensures refl c.branch_shown-shown.ensures) ∙ text_branch c.in-Branch.is) c.requires.room
+put_sum-requires c = room_as (ap shown_text (branch_is c.args.mode c.args.arm c.args.body.now.front.start (fields_by c.args.body.now.front c.args.body.now.rest.now) refl c.immediate_kind_at.ensures c.immediate_at.ensures refl c.branch_shown-shown.ensures) ∙ text_branch c.in-Branch.is) c.requires
 
 pub put_target-requires : goal.put_target-requires
-put_target-requires c = room_as (ap shown_text (branch_is c.args.mode c.args.arm c.args.front.start (fields_by c.args.front c.args.rest.now) refl c.immediate_kind_at.ensures c.immediate_at.ensures refl c.branch_shown-shown.ensures) ∙ text_target c.in-Target.is) c.requires.room
+put_target-requires c = room_as (ap shown_text (branch_is c.args.mode c.args.arm c.args.body.now.front.start (fields_by c.args.body.now.front c.args.body.now.rest.now) refl c.immediate_kind_at.ensures c.immediate_at.ensures refl c.branch_shown-shown.ensures) ∙ text_target c.in-Target.is) c.requires
 
 pub returns-in-Branch : goal.returns-in-Branch
-returns-in-Branch c = put_as (sym (ap shown_text (branch_is c.args.mode c.args.arm c.args.front.start (fields_by c.args.front c.args.rest.now) refl c.immediate_kind_at.ensures c.immediate_at.ensures refl c.branch_shown-shown.ensures) ∙ text_branch c.in-Branch.is)) c.put_sum.ensures
+returns-in-Branch c = put_as (sym (ap shown_text (branch_is c.args.mode c.args.arm c.args.body.now.front.start (fields_by c.args.body.now.front c.args.body.now.rest.now) refl c.immediate_kind_at.ensures c.immediate_at.ensures refl c.branch_shown-shown.ensures) ∙ text_branch c.in-Branch.is)) c.put_sum.ensures
 
 pub returns-in-Target : goal.returns-in-Target
-returns-in-Target c = put_as (sym (ap shown_text (branch_is c.args.mode c.args.arm c.args.front.start (fields_by c.args.front c.args.rest.now) refl c.immediate_kind_at.ensures c.immediate_at.ensures refl c.branch_shown-shown.ensures) ∙ text_target c.in-Target.is)) c.put_target.ensures
+returns-in-Target c = put_as (sym (ap shown_text (branch_is c.args.mode c.args.arm c.args.body.now.front.start (fields_by c.args.body.now.front c.args.body.now.rest.now) refl c.immediate_kind_at.ensures c.immediate_at.ensures refl c.branch_shown-shown.ensures) ∙ text_target c.in-Target.is)) c.put_target.ensures
 
 pub returns-in_default : goal.returns-in_default
 returns-in_default c = let a = c.args in
     absurd
-    (branch_other a.mode a.arm (instruction_by a.front a.rest.now)
-    (branch_is a.mode a.arm a.front.start (fields_by a.front a.rest.now) refl c.immediate_kind_at.ensures c.immediate_at.ensures refl c.branch_shown-shown.ensures)
+    (branch_other a.mode a.arm (instruction_by a.body.now.front a.body.now.rest.now)
+    (branch_is a.mode a.arm a.body.now.front.start (fields_by a.body.now.front a.body.now.rest.now) refl c.immediate_kind_at.ensures c.immediate_at.ensures refl c.branch_shown-shown.ensures)
     c.in_default.not-Branch c.in_default.not-Target)

@@ -11,7 +11,7 @@ use Rattle.listings.proofs.listing.print_lines.Goals as goal
 use Rattle.listings.proofs.listing.print_lines.Goals.{then-text-listing+else-text-measured, else-text-listing}
 
 pub walk-measured-requires : goal.walk-measured-requires
-walk-measured-requires c = let a = c.args in record { mnemonic_table = c.requires.mnemonic_table; register_table = c.requires.register_table; label_table = c.requires.label_table; arm_table = c.requires.arm_table; bytes_nonzero = c.requires.listing_nonzero.0; walkable = lines_aside a.asked a.listing.now _ c.requires.listing_nonzero.1 (omega arith) }
+walk-measured-requires c = let a = c.args in record { bytes_nonzero = c.requires.listing_nonzero.0; walkable = lines_aside a.asked a.listing.now _ c.requires.listing_nonzero.1 (omega arith) }
 
 pub returns-then-text-measured : goal.returns-then-text-measured
 returns-then-text-measured c = let a = c.args in
@@ -24,7 +24,7 @@ walk-printed-requires c = let a = c.args in
       | then-text-listing+else-text-measured w ↦ omega (arith, lines-total w.walk-measured.ensures, w.if-text-measured.false)
       | else-text-listing w ↦ omega (arith, w.if-text-listing.false, lines_short a.asked (drop 1 a.listing.now), length-drop 1 a.listing.now)
     ] in
-    record { mnemonic_table = c.requires.mnemonic_table; register_table = c.requires.register_table; label_table = c.requires.label_table; arm_table = c.requires.arm_table; bytes_nonzero = c.requires.listing_nonzero.0; walkable = lines_fit a.asked a.listing.now _ c.requires.listing_nonzero.1 fits }
+    record { bytes_nonzero = c.requires.listing_nonzero.0; walkable = lines_fit a.asked a.listing.now _ c.requires.listing_nonzero.1 fits }
 
 pub returns : goal.returns
 returns c = let a = c.args in

@@ -10,7 +10,7 @@ use Rattle.listings.proofs.walk.walk.Given as goal
 
 abbrev pub invariant-loop-at : goal.invariant-loop-at
 invariant-loop-at l =
-    Walking l.alone l.aside l.asked l.bytes l.initial.text l.at l.total l.number l.text × (l.place ≡ place_of l.aside l.total)
+    Walking l.alone l.aside l.asked l.bytes l.initial.text l.at l.total l.refused l.text × (l.place ≡ place_of l.aside l.total)
 
 abbrev pub decreases-loop-at : goal.decreases-loop-at
 decreases-loop-at l =

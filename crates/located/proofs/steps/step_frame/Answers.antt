@@ -1,6 +1,6 @@
 -- `located::steps::step_frame` meets its contract: too few bytes for a length, too few for the frame, or a whole one.
 -- Assumes nothing.
-use Rattle.std.proofs.Common.{◌+◌, ◌-◌, ◌^◌, ◌<◌, take, drop, arith, length-drop, length-take-le}
+use Rattle.std.proofs.Common.{refl, ◌+◌, ◌-◌, ◌^◌, ◌<◌, take, drop, arith, length-drop, length-take-le}
 use Rattle.streams.proofs.Streaming.{part_cut}
 use Rattle.located.proofs.RecordParts.{part_short}
 use Rattle.located.proofs.Going.{steps_none, steps_whole}
@@ -14,7 +14,7 @@ returns-then-input-end c = let few : c.word_at.result < 2 ^ 16 = c.word_at.type_
     steps_none (part_cut c.args.input.now (omega (arith, c.if-input-end.true, c.word_at.ensures)), omega (arith, c.if-input-end.true, few))
 
 pub put_part-placed-requires : goal.put_part-placed-requires
-put_part-placed-requires c = let n = c.word_at.result in let few : n < 2 ^ 16 = c.word_at.type_inv in let xs = c.args.input.now in let sized = length-take-le (2 + n - 2) (drop 2 xs) (omega (arith, length-drop 2 xs, c.if-input-end.false)) in let short = part_short c.in_version.result c.args.number c.args.offset (take (2 + n - 2) (drop 2 xs)) c.ranges.number.fits c.ranges.offset.fits (omega (arith, sized, few)) in record { mnemonic_table = c.requires.mnemonic_table; register_table = c.requires.register_table; label_table = c.requires.label_table; arm_table = c.requires.arm_table; room = record { fits = omega (arith, c.requires.longest_part_in_bounds, short) } }
+put_part-placed-requires c = let n = c.word_at.result in let few : n < 2 ^ 16 = c.word_at.type_inv in let xs = c.args.input.now in let sized = length-take-le (2 + n - 2) (drop 2 xs) (omega (arith, length-drop 2 xs, c.if-input-end.false)) in let short = part_short c.in_version.result c.args.number c.args.offset (take (2 + n - 2) (drop 2 xs)) c.ranges.number.fits c.ranges.offset.fits (omega (arith, sized, few)) in record { fits = omega (arith, c.requires.longest_part_in_bounds, short) }
 
 pub returns : goal.returns
 returns c = let n = c.word_at.result in
@@ -22,4 +22,4 @@ returns c = let n = c.word_at.result in
     let xs = c.args.input.now in
     let sized = length-take-le (2 + n - 2) (drop 2 xs) (omega (arith, length-drop 2 xs, c.if-input-end.false)) in
     let short = part_short c.in_version.result c.args.number c.args.offset (take (2 + n - 2) (drop 2 xs)) c.ranges.number.fits c.ranges.offset.fits (omega (arith, sized, few)) in
-    steps_whole c.args.asked c.args.number c.args.offset c.args.version xs (2 + n - 2) c.in_version.ensures c.word_at.ensures c.if-input-end.false (omega arith) c.wrapping_add_u64.ensures.value c.wrapping_add_u64-2.ensures.value short c.put_part-placed.ensures c.refused_by.ensures
+    steps_whole c.args.asked c.args.number c.args.offset c.args.version xs (2 + n - 2) c.in_version.ensures c.word_at.ensures c.if-input-end.false (omega arith) refl refl short c.put_part-placed.ensures c.refused_by.ensures

@@ -4,18 +4,16 @@ use lib.ListN.{length-set}
 use Rattle.numerals.proofs.Places.{length_digits, digits_last, put_digits_done}
 use Rattle.numerals.proofs.digits.put_digits.Goals as goal
 
-pub loop-left-init : goal.loop-left-init
-loop-left-init c = let a = c.args in
-    (omega arith, omega (arith, length_digits a.k a.v), refl, refl)
+pub loop-i-init : goal.loop-i-init
+loop-i-init c = record { room = omega (arith, length_digits c.args.k c.args.v); written = refl }
 
-pub loop-left-preserved : goal.loop-left-preserved
-loop-left-preserved c = let a = c.args in
-    let l = c.loop-left in (
-      omega arith,
-      omega arith,
-      rw length-set l.invariant.2,
-      rw c.digit.ensures (digits_last l.buf a.at l.left l.w c.loop-left-test.true (omega arith)) ∙ l.invariant.3,
-    )
+pub loop-i-preserved : goal.loop-i-preserved
+loop-i-preserved c =
+    let l = c.loop-i in
+    record {
+      room = rw length-set l.invariant.room;
+      written = rw c.digit.ensures (digits_last l.buf c.args.at l.i l.left c.loop-i-test.true (omega arith)) ∙ l.invariant.written;
+    }
 
 pub returns : goal.returns
-returns c = let a = c.args in put_digits_done a.k a.v c.loop-left.left c.loop-left.w c.loop-left-test.false c.loop-left.invariant.3
+returns c = put_digits_done c.args.k c.args.v c.loop-i.i c.loop-i.left c.loop-i-test.false c.loop-i.invariant.written

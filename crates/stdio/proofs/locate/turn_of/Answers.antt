@@ -1,8 +1,0 @@
--- `stdio::locate::turn_of` meets its contract: the pass's, whose text lies within the buffer.
--- Assumes nothing.
-use native.Mathlib.Omega.{arith}
-use lib.ListN.{length-take}
-use Rattle.stdio.proofs.locate.turn_of.Goals as goal
-
-pub slice_bounds-write_all-end-2 : goal.slice_bounds-write_all-end-2
-slice_bounds-write_all-end-2 g c = simp length-take (omega (arith, c.pass-passed.ensures.fits))

@@ -1,2 +1,0 @@
--- Laws of what is held of two files.
-pub mod Comparing
