@@ -1,5 +1,5 @@
 // One of the two listings: what stands at its place.
-ghost use Rattle.std.specs.Prelude.{◌≡◌, ◌≤◌, length, drop, option_copied};
+ghost use Rattle.std.specs.Prelude.{◌≡◌, drop, option_copied};
 ghost use Rattle.cursors.specs.Code.{Sees};
 ghost use Rattle.compared.specs.Places.{start_of};
 ghost use Rattle.compared.specs.Code.{wanting, body_in};
@@ -14,12 +14,10 @@ use frames::numbers::byte_at;
 pub struct Reading<'a> {
     pub reader: Reader<'a>,
     pub ended: bool,
-    ghost within: { reader.at ≤ length reader.listing.now },
 }
 
 impl<'a> Reading<'a> {
     pub fn new(listing: &'a [u8], at: usize, ended: bool) -> Self
-        requires { at ≤ length listing.now }
         ensures { ((result.reader.listing.now ≡ listing.now) × (result.reader.at ≡ at)) × (result.ended ≡ ended) }
     {
         Reading {

@@ -19,6 +19,7 @@ fn step_versions(
     text: &mut [u8],
     out: usize,
 ) -> Passed
+    requires within { (first.reader.at ≤ length first.reader.listing.now) × (second.reader.at ≤ length second.reader.listing.now) }
     requires longest_event_in_bounds { out + longest_event ≤ length text.old }
     ensures { Steps asked Stage.Versions first.entry.reader.listing.now second.entry.reader.listing.now first.entry.reader.at second.entry.reader.at first.entry.ended second.entry.ended text.old out result text.new }
 {
@@ -75,6 +76,7 @@ fn step_records(
     text: &mut [u8],
     out: usize,
 ) -> Passed
+    requires within { (first.reader.at ≤ length first.reader.listing.now) × (second.reader.at ≤ length second.reader.listing.now) }
     requires longest_event_in_bounds { out + longest_event ≤ length text.old }
     ensures { Steps asked (Stage.Records number named first_version second_version) first.entry.reader.listing.now second.entry.reader.listing.now first.entry.reader.at second.entry.reader.at first.entry.ended second.entry.ended text.old out result text.new }
 {
@@ -140,6 +142,7 @@ pub fn step(
     text: &mut [u8],
     out: usize,
 ) -> Passed
+    requires within { (first.reader.at ≤ length first.reader.listing.now) × (second.reader.at ≤ length second.reader.listing.now) }
     requires longest_event_in_bounds { out + longest_event ≤ length text.old }
     ensures { Steps asked stage first.entry.reader.listing.now second.entry.reader.listing.now first.entry.reader.at second.entry.reader.at first.entry.ended second.entry.ended text.old out result text.new }
 {

@@ -124,6 +124,7 @@ fn round_of<S: Lister, R: Print, F: Read>(
         Next::Full => (held, None),
         Next::Read => match refill(file, held, input) {
             Ok(more) => (more, None),
+            // The run ends here, so where the bytes lie now is not asked again.
             Err(_) => (held, Some(End::ReadFailed)),
         },
         Next::Whole => (held, Some(End::Whole)),

@@ -14,7 +14,7 @@ use Rattle.streams.specs.declared.Passed.{Passed}
 abbrev pub Way : Type 0 → Type 1
 Way S = Asked → S → List ℕ → List ℕ → S → List ℕ → ℕ → ℕ → Type 0
 
--- the code's step: what it says was put, and it goes on from there; where it uses nothing, it says nothing and stays where it is
+-- the code's step: what it says was put, and it goes on from there; where it uses nothing, it says nothing
 pub record StepsOn {S : Type 0} (way : Way S) (unused : Asked → S → List ℕ → Type 0) (alive : S → Type 0) (room : ℕ) (asked : Asked) (stage : S) (held before : List ℕ) (out : ℕ) (step : Step S) (after : List ℕ) : Type 0 where
   pub says : List ℕ
   pub put : Put before out says step.out after

@@ -87,6 +87,7 @@ fn round_of<R: Print, F: Read>(
         Next::On => (one, other, None),
         Next::First => match refill(first_file, one, first) {
             Ok(more) => (more, other, None),
+            // The run ends here, so where the bytes lie now is not asked again; and so below.
             Err(_) => (one, other, Some(Verdict::FirstUnread)),
         },
         Next::Second => match refill(second_file, other, second) {

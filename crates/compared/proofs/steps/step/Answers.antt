@@ -5,4 +5,4 @@ use Rattle.compared.proofs.Stepping.{steps_done, steps_at}
 use Rattle.compared.proofs.steps.step.Goals as goal
 
 pub returns-in-Done : goal.returns-in-Done
-returns-in-Done c = steps_at (sym c.in-Done.is) (steps_done (c.args.first.within, c.args.second.within))
+returns-in-Done c = steps_at (sym c.in-Done.is) (steps_done c.requires.within)
