@@ -2,8 +2,8 @@
  * The listing printer, called from C: MASM lines for record bodies and for whole listings.
  *
  * Link with target/staticlib/libhost.a (`commands/make . rt archive host`), or as `pkg-config --libs masm_listing` says
- * where ./install has put it in place; it is for x86-64 Linux and needs memcpy and nothing else. This header
- * is C99, and C++ reads it too; nothing older than C99 does (stdint.h, inline).
+ * where ./install has put it in place; it is for x86-64 Linux and needs memcpy and memset and nothing else.
+ * This header is C99, and C++ reads it too; nothing older than C99 does (stdint.h, inline).
  *
  * The archive allocates nothing, keeps nothing between calls and stops no program: every body and every
  * listing, whatever bytes it holds, gets one of the answers below. Calls from several threads at once are

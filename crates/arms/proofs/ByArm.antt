@@ -4,13 +4,14 @@ use mathlib.Core.Path.{◌≡◌, refl, sym, ap, ◌∙◌}
 use mathlib.Core.Bool.{Bool, true, not, ◌||◌, or-false, or_assoc}
 use mathlib.Core.List.{[], ◌∷◌}
 use Rattle.operands.specs.Kinds.{is_absent, is_memory}
+use Rattle.operands.specs.Parts.{is_bank0}
 use Rattle.operands.specs.declared.Instruction.{Instruction}
 use Rattle.operands.specs.declared.Operand.{Operand}
 use Rattle.operands.specs.declared.Operand.TheVariants.{Absent}
 use Rattle.names.specs.declared.Arm.{Arm}
 use Rattle.names.specs.declared.Arm.TheVariants as arms
 use Rattle.names.proofs.ArmGroups.{Each}
-use Rattle.arms.specs.Shape.{shape_refused, lsl_refused, fadd_refused, scatter_refused}
+use Rattle.arms.specs.Shape.{shape_refused, lsl_refused, fadd_refused, fbld_refused, scatter_refused}
 
 -- a rule that an absent operand breaks covers the rule that the operand is there
 absent_covered : (f : Operand → Bool) → f Absent ≡ true → (o : Operand) → (is_absent o || f o) ≡ f o
@@ -50,9 +51,25 @@ module _ (i : Instruction) where
   unfolding shape_refused
   at_lods = simp or-false (no_memory i.b)
 
+  pub at_incssp : shape_refused arms.Incssp i ≡ not (is_bank0 i.a)
+  unfolding shape_refused
+  at_incssp = simp or-false (absent_covered (λ (x : Operand). not (is_bank0 x)) refl i.a)
+
+  pub at_wrss : shape_refused arms.Wrss i ≡ not (is_bank0 i.b)
+  unfolding shape_refused
+  at_wrss = simp or-false (absent_covered (λ (x : Operand). not (is_bank0 x)) refl i.b)
+
+  pub at_fcom : shape_refused arms.Fcom i ≡ is_absent i.b
+  unfolding shape_refused
+  at_fcom = simp or-false
+
   pub at_fadd : shape_refused arms.Fadd i ≡ (is_absent i.a || is_absent i.b || fadd_refused i.a i.b)
   unfolding shape_refused
   at_fadd = simp or-false
+
+  pub at_fbld : shape_refused arms.Fbld i ≡ fbld_refused i.b
+  unfolding shape_refused
+  at_fbld = simp or-false (absent_covered fbld_refused refl i.b)
 
   pub scattering : Each (λ (x : Arm). shape_refused x i ≡ scatter_refused i.a i.b i.c) (arms.ScatterDword ∷ arms.ScatterQword ∷ [])
   unfolding shape_refused

@@ -10,3 +10,4 @@ pub mod Ordered
 pub mod Over16
 pub mod Tails
 pub mod PlainPlans
+pub mod Vectors

@@ -25,8 +25,9 @@ fn by_bits(l: u8, lp: u8, neither: u8, bits: u8) -> u8
     }
 }
 
-// N of the operand after operand k.
+// N of the operand after operand k. What takes a body here is joined to its caller, as the functions of `bodies::kinds` are.
 #[tactic(auto, unfolding(crate::specs::Decorations::broadcast_count, bodies::specs::Decoding::instruction_of))]
+#[inline(always)]
 fn broadcast_count(arm: Arm, body: &Body, k: u8) -> u8
     ensures { result ≡ broadcast_count arm (instruction_of (fields_by body.now.front body.now.rest.now)) (operand_at (fields_by body.now.front body.now.rest.now) k) }
 {
@@ -52,6 +53,7 @@ fn is_broadcast(body: &Body) -> bool
 }
 
 // The broadcast of the operand after operand k.
+#[inline(always)]
 fn broadcast_after(arm: Arm, body: &Body, k: u8) -> Option<u8>
     ensures { result ≡ broadcast_after arm (instruction_of (fields_by body.now.front body.now.rest.now)) (operand_at (fields_by body.now.front body.now.rest.now) k) }
 {

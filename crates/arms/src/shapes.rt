@@ -16,6 +16,8 @@ fn lsl_refused(body: &Body) -> bool
         || (body.is_register_at(1) && !(source < 80 && source != 30 && source != 31))
 }
 
+// Joined to its caller, as the functions of `bodies::kinds` are.
+#[inline(always)]
 fn fadd_refused(body: &Body) -> bool
     ensures { result ≡ fadd_refused (operand_at (fields_by body.now.front body.now.rest.now) 0) (operand_at (fields_by body.now.front body.now.rest.now) 1) }
 {

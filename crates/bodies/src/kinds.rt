@@ -1,4 +1,5 @@
-// What is asked of operand k by its kind, without the rest of it.
+// What is asked of operand k by its kind, without the rest of it. Each is joined to its callers: a call would take the body through
+// memory, and then it is stored for every record.
 #![tactic(auto, using(crate::proofs::ByKind::by_kind_lemmas))]
 
 ghost use Rattle.std.specs.Prelude.{◌≡◌, ◌&&◌, ◌≤◌, eqb, get_or};
@@ -12,18 +13,21 @@ use crate::{Body, numbers, stored};
 use operands::kinds::{ABSOLUTE_16, I8, I16, REGISTER_M, REGISTER_R, U8, U16, U32};
 
 impl Body<'_> {
+    #[inline(always)]
     pub fn is_absent_at(&self, k: u8) -> bool
         ensures { result ≡ is_absent (operand_at (fields_by self.now.front self.now.rest.now) k) }
     {
         self.count() <= k
     }
 
+    #[inline(always)]
     pub fn is_memory_at(&self, k: u8) -> bool
         ensures { result ≡ is_memory (operand_at (fields_by self.now.front self.now.rest.now) k) }
     {
         matches!(self.place_of(k), Some(at) if ABSOLUTE_16 <= self.rest[at])
     }
 
+    #[inline(always)]
     pub fn is_register_at(&self, k: u8) -> bool
         ensures { result ≡ is_register (operand_at (fields_by self.now.front self.now.rest.now) k) }
     {
@@ -31,6 +35,7 @@ impl Body<'_> {
     }
 
     // A register in the R place, kind 1.
+    #[inline(always)]
     pub fn is_register_r_at(&self, k: u8) -> bool
         ensures { result ≡ is_register_r (operand_at (fields_by self.now.front self.now.rest.now) k) }
     {
@@ -38,6 +43,7 @@ impl Body<'_> {
     }
 
     // A register in the M place, kind 2.
+    #[inline(always)]
     pub fn is_register_m_at(&self, k: u8) -> bool
         ensures { result ≡ is_register_m (operand_at (fields_by self.now.front self.now.rest.now) k) }
     {
@@ -45,6 +51,7 @@ impl Body<'_> {
     }
 
     // The register byte of kinds 1 and 2, and 0 of any other operand.
+    #[inline(always)]
     pub fn register_at(&self, k: u8) -> u8
         ensures { result ≡ register_of (operand_at (fields_by self.now.front self.now.rest.now) k) }
     {
@@ -55,6 +62,7 @@ impl Body<'_> {
     }
 
     // The kind of an immediate, and 0 of any other operand.
+    #[inline(always)]
     pub fn immediate_kind_at(&self, k: u8) -> u8
         ensures { result ≡ immediate_kind (operand_at (fields_by self.now.front self.now.rest.now) k) }
     {
@@ -68,6 +76,7 @@ impl Body<'_> {
     }
 
     // The value of an immediate, and 0 of any other operand.
+    #[inline(always)]
     pub fn immediate_at(&self, k: u8) -> u32
         ensures { result ≡ immediate_of (operand_at (fields_by self.now.front self.now.rest.now) k) }
     {
@@ -81,6 +90,7 @@ impl Body<'_> {
     }
 
     // Memory without a mask.
+    #[inline(always)]
     pub fn is_plain_memory_at(&self, k: u8) -> bool
         ensures { result ≡ (is_memory (operand_at (fields_by self.now.front self.now.rest.now) k) && eqb (mask_of (operand_at (fields_by self.now.front self.now.rest.now) k)) 0) }
     {
@@ -88,6 +98,7 @@ impl Body<'_> {
     }
 
     // A register of bank 9.
+    #[inline(always)]
     pub fn is_mask_register_at(&self, k: u8) -> bool
         ensures { result ≡ is_mask_register (operand_at (fields_by self.now.front self.now.rest.now) k) }
     {
@@ -95,6 +106,7 @@ impl Body<'_> {
     }
 
     // The width in bytes of a register or an immediate, and 0 of any other operand.
+    #[inline(always)]
     pub fn width_at(&self, k: u8) -> u8
         ensures { result ≡ width_of (operand_at (fields_by self.now.front self.now.rest.now) k) }
     {

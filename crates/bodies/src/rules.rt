@@ -133,7 +133,8 @@ fn mask_kept(kind: u8, mask: u8) -> bool
     }
 }
 
-// Operand k, where it is stored. A VPSCATTER's operand 0 scatters.
+// Operand k, where it is stored. A VPSCATTER's operand 0 scatters. Joined to its caller, as the functions of `kinds` are.
+#[inline(always)]
 fn operand_refused(body: &Body, k: u8, extended: bool, scatters: bool) -> bool
     requires extended_value { extended ≡ is_extended (fields_by body.now.front body.now.rest.now) }
     requires scatters_value { scatters ≡ (eqb k 0 && is_scatter (opcode_of (fields_by body.now.front body.now.rest.now))) }

@@ -70,8 +70,8 @@ impl Body<'_> {
         }
     }
 
-    // Where operand k stands, if there is one.
-    #[inline]
+    // Where operand k stands, if there is one. Joined to its callers, as the functions of `kinds` are.
+    #[inline(always)]
     pub fn place_of(&self, k: u8) -> Option<usize>
         ensures some { IfSome result (λ at. StandsAt (fields_by self.now.front self.now.rest.now) k at) }
         ensures none { IsNone result → count_of (fields_by self.now.front self.now.rest.now) ≤ k }

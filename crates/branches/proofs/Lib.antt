@@ -2,3 +2,4 @@ pub mod Sums
 pub mod Modulo
 pub mod Compared
 pub mod Wrapping
+pub mod Words

@@ -85,7 +85,7 @@ module _ (asked : Asked) (xs ys : List ℕ) (ended ended' : Bool) where
     pass_turn number named v w First e = pass_step (steps_first placed (more_there sees (turn_first s t e)))
     pass_turn number named v w Second e = pass_step (steps_second placed (more_there sees' (turn_second s t e)))
     pass_turn number named v w (Ends a b) e = pass_step (steps_ends asked v w placed sees sees' e (put_blank (end_text a b named)) refl)
-    pass_turn number named v w ToRecords e =
+    pass_turn number named v w (ToRecords f g) e =
         let sides = in_versions v w asked in
         let es = events_at number (naming sides (found_of (body_in xs s)) (found_of (body_in ys t))) in
         let noted : Noted = record { named = capped (named + length es); out = length (events_text es) } in

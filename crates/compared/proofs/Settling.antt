@@ -8,6 +8,7 @@ use Prim.Native.Nat.{ℕ, ◌+◌, ◌≤◌, ◌<◌}
 use native.Mathlib.Omega.{arith}
 use lib.ListN.{length, drop}
 use Rattle.text.specs.Code.{Put}
+use Rattle.frames.specs.declared.Frame.{Frame}
 use Rattle.cursors.specs.Code.{place_after, Sees}
 use Rattle.cursors.specs.declared.Stands.{Stands}
 use Rattle.cursors.specs.declared.Stands.TheVariants.{Body, End, Cut, More}
@@ -24,7 +25,7 @@ use Rattle.compared.specs.Places.{is_cut}
 use Rattle.compared.specs.Report.{ends, walk, in_versions, not_same}
 use Rattle.compared.specs.Text.{capped, end_text}
 use Rattle.compared.specs.Pass.{Comes}
-use Rattle.compared.specs.Code.{turn_of, body_in, found_of, Notes, Steps}
+use Rattle.compared.specs.Code.{frame_of, turn_of, body_in, found_of, Notes, Steps}
 use Rattle.compared.proofs.Walks.{walk_cut, walk-empty}
 use Rattle.compared.proofs.SideTexts.{end_most}
 use Rattle.compared.proofs.Going.{goes_ends}
@@ -46,7 +47,7 @@ data Settled (s t : Stands) (u : Turn) : Type 0 where
   to_second : t ≡ More → u ≡ Second → Settled s t u
   to_cut : (p q : Bool) → Cuts s p → Cuts t q → (p || q) ≡ true → u ≡ Ends (cond p SideCut Sound) (cond q SideCut Sound) → Settled s t u
   to_end : s ≡ End → t ≡ End → u ≡ Ends Sound Sound → Settled s t u
-  to_records : (p q : Bool) → Ready s p → Ready t q → (p || q) ≡ true → u ≡ ToRecords → Settled s t u
+  to_records : (p q : Bool) → Ready s p → Ready t q → (p || q) ≡ true → u ≡ ToRecords (frame_of s) (frame_of t) → Settled s t u
 
 settled : (s t : Stands) → Settled s t (turn_of s t)
 settled More t = to_first refl refl
@@ -68,7 +69,7 @@ abbrev kind_of : Turn → ℕ
 kind_of First = 0
 kind_of Second = 1
 kind_of (Ends a b) = 2
-kind_of ToRecords = 3
+kind_of (ToRecords f g) = 3
 
 apart : {u v w : Turn} → u ≡ v → u ≡ w → (kind_of v ≡ kind_of w → ⊥) → ⊥
 apart {u} {v} {w} e f n = n (ap kind_of (sym e ∙ f))
@@ -148,7 +149,7 @@ pub notes_as : {sides : AskedSides} {number named : ℕ} {f f' g g' : Option (Li
 notes_as e e' notes = rw (← e, ← e') notes
 
 -- where a record stands, on both sides or on one
-module _ {xs ys : List ℕ} {at at' : ℕ} {ended ended' : Bool} {s t : Stands} (placed : (at ≤ length xs) × (at' ≤ length ys)) (sees : Sees xs at ended s) (sees' : Sees ys at' ended' t) (e : turn_of s t ≡ ToRecords) where
+module _ {xs ys : List ℕ} {at at' : ℕ} {ended ended' : Bool} {s t : Stands} (placed : (at ≤ length xs) × (at' ≤ length ys)) (sees : Sees xs at ended s) (sees' : Sees ys at' ended' t) {f g : Option Frame} (e : turn_of s t ≡ ToRecords f g) where
   pub steps_records : {asked : Asked} {sides : AskedSides} {before : List ℕ} {out number named v w number' p q : ℕ} {noted : Noted} {after : List ℕ} → p ≡ place_after at s → q ≡ place_after at' t → number' ≡ capped (number + 1) → sides ≡ in_versions v w asked → Notes sides number named (found_of (body_in xs s)) (found_of (body_in ys t)) before out noted after → Steps asked (Records number named v w) xs ys at at' ended ended' before out (record { stage = Records number' noted.named v w; first = p; second = q; out = noted.out; next = On }) after
   steps_records {asked} {sides} {before} {out} {number} {named} {v} {w} {number'} {p} {q} {noted} {after} to to' more told notes = rw (to, to') (go (settled s t))
     where

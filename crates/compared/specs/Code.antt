@@ -6,6 +6,8 @@ use Rattle.text.specs.Words.{bytes, empty}
 use Rattle.text.specs.Code.{Put}
 use Rattle.numerals.specs.Decimals.{decimal}
 use Rattle.records.specs.Lines.{record_line}
+use Rattle.frames.specs.Code.{frame}
+use Rattle.frames.specs.declared.Frame.{Frame}
 use Rattle.cursors.specs.declared.Stands.{Stands}
 use Rattle.cursors.specs.declared.Stands.TheVariants.{Body, End, Cut, More}
 use Rattle.records.specs.declared.Asked.{Asked}
@@ -26,7 +28,14 @@ use Rattle.compared.specs.Pass.{Goes, Follows}
 abbrev pub wanting : List ℕ → (ended : Bool) → Bool
 wanting xs ended = empty xs && not ended
 
--- what is to be done, by what stands on each side: first bytes that are wanted, then cuts, then records
+-- the frame of the record that stands there
+abbrev pub frame_of : Stands → Option Frame
+frame_of (Body start end) = Some (frame start end)
+frame_of End = None
+frame_of Cut = None
+frame_of More = None
+
+-- what is to be done, by what stands on each side: first bytes that are wanted, then cuts, then records, by the places of their bodies
 abbrev pub turn_of : (first second : Stands) → Turn
 turn_of More y = First
 turn_of (Body a b) More = Second
@@ -37,9 +46,9 @@ turn_of Cut End = Ends SideCut Sound
 turn_of Cut Cut = Ends SideCut SideCut
 turn_of (Body a b) Cut = Ends Sound SideCut
 turn_of End Cut = Ends Sound SideCut
-turn_of (Body a b) (Body c d) = Records
-turn_of (Body a b) End = Records
-turn_of End (Body c d) = Records
+turn_of (Body a b) (Body c d) = Records (Some (frame a b)) (Some (frame c d))
+turn_of (Body a b) End = Records (Some (frame a b)) None
+turn_of End (Body c d) = Records None (Some (frame c d))
 turn_of End End = Ends Sound Sound
 
 -- the body of the record that stands there, and what it is to the other side's

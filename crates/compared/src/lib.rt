@@ -10,6 +10,7 @@ pub mod settle;
 pub mod sides;
 pub mod steps;
 
+use frames::Frame;
 use records::Asked;
 
 // What is asked of the records of each side: their lines are by that side's own version.
@@ -28,13 +29,19 @@ pub enum Side {
 }
 
 // What is to be done at a place of both listings: bytes are wanted, of the first or of the second; the run ends, with what is to be
-// said of each side; or a record stands there, on both sides or on one.
+// said of each side; or a record stands there, on both sides or on one, by the places of its body.
 #[derive(Clone, Copy)]
 pub enum Turn {
     First,
     Second,
-    Ends { first: Side, second: Side },
-    Records,
+    Ends {
+        first: Side,
+        second: Side,
+    },
+    Records {
+        first: Option<Frame>,
+        second: Option<Frame>,
+    },
 }
 
 // How far the comparison has come: nothing yet; before a record, with its number, how many were named, and each side's version; or to

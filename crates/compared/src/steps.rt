@@ -113,7 +113,7 @@ fn step_records(
             next: Next::Nothing,
             ..here
         },
-        Turn::Records => {
+        Turn::Records { .. } => {
             let sides = in_versions(first_version, second_version, asked);
             let (a, b) = (first.body(one), second.body(other));
             let noted = note(tables, number, named, a, b, sides, text, out);

@@ -1,14 +1,35 @@
 -- What stands at a place, case by case.
 -- Assumes nothing.
-use Rattle.std.specs.Prelude.{◌≡◌, ℕ, ◌+◌, ◌<◌, ◌≤◌, Bool, true, false, cond, leb, List, length, drop}
+use Rattle.std.specs.Prelude.{◌≡◌, ℕ, ◌+◌, ◌-◌, ◌<◌, ◌≤◌, Bool, true, false, cond, leb, List, length, drop}
 use mathlib.Core.Path.{refl}
 use native.Mathlib.Omega.{arith}
-use borrow.Author.Tests.{leb-true, leb-false}
+use borrow.Author.Tests.{le-leb, lt-leb, leb-true, leb-false}
+use Rattle.frames.specs.Numbers.{word}
 use Rattle.frames.specs.Frames.{is_whole, body_length}
 use Rattle.frames.proofs.FrameAt.{WholeAt, whole_at}
-use Rattle.cursors.specs.Code.{at_end, unfinished, stands_at}
+use Rattle.frames.proofs.FrameAt as frame
+use Rattle.cursors.specs.Code.{at_end, unfinished, stands_at, Sees}
+use Rattle.cursors.specs.Longest.{longest_frame}
 use Rattle.cursors.specs.declared.Stands.{Stands}
 use Rattle.cursors.specs.declared.Stands.TheVariants.{Body, End, Cut, More}
+
+module _ (xs : List ℕ) (at : ℕ) (ended : Bool) where
+  -- no bytes are left
+  pub sees_none : {s : Stands} → length xs ≤ at → s ≡ at_end ended → Sees xs at ended s
+  sees_none h e = record { there = rw (le-leb (length xs) at h) e; few = λ more. omega (arith, h) }
+
+  -- fewer than a frame has
+  pub sees_part : {s : Stands} → at < length xs → is_whole (drop at xs) ≡ false → length xs - at < longest_frame → s ≡ unfinished ended → Sees xs at ended s
+  sees_part h part few e = record { there = rw (lt-leb (length xs) at h, part) e; few = λ more. few }
+
+  -- a whole frame
+  pub sees_whole : {n : ℕ} → at < length xs → n ≡ word xs at → 2 ≤ length xs - at → n ≤ length xs - at - 2 → Sees xs at ended (Body (at + 2) (at + 2 + n))
+  sees_whole {n} h e few fits =
+      let w = whole_at xs at (omega (arith, h)) (frame.whole-there xs at e few fits) in
+      record {
+        there = rw (lt-leb (length xs) at h, w.whole, ← w.to);
+        few = λ more. absurd cc;
+      }
 
 -- what is known of a place by what stands there
 data Standing (xs : List ℕ) (at : ℕ) (ended : Bool) (s : Stands) : Type 0 where

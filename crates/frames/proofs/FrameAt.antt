@@ -4,15 +4,45 @@ use mathlib.Core.Path.{◌≡◌, refl, sym, ap}
 use mathlib.Core.Bool.{Bool, true, false, ◌&&◌, cond}
 use mathlib.Core.List.{List}
 use Rattle.std.specs.Prelude.{Some, None}
-use Prim.Native.Nat.{ℕ, ◌+◌, ◌-◌, ◌≤◌}
+use Prim.Native.Nat.{ℕ, ◌+◌, ◌-◌, ◌≤◌, ◌<◌}
+use native.Mathlib.Nat.{add-zero}
 use native.Mathlib.Omega.{arith}
 use lib.Dec.{leb}
 use lib.ListN.{length, take, drop, length-drop}
-use lib.Seq.{drop-drop}
-use borrow.Author.Tests.{leb-true}
+use lib.Seq.{get_or-drop, drop-drop}
+use borrow.Author.Tests.{le-leb, lt-leb, leb-true}
+use Rattle.std.specs.Prelude.{Option}
+use Rattle.frames.specs.Numbers.{word}
 use Rattle.frames.specs.Frames.{body_length, is_whole, body_of, frame_size}
 use Rattle.frames.specs.Code.{frame, frame_at}
 use Rattle.frames.specs.declared.Frame.{Frame}
+
+-- the length that stands at a place
+pub word-drop : (xs : List ℕ) (at : ℕ) → word (drop at xs) 0 ≡ word xs at
+word-drop xs at = rw (get_or-drop at xs 0 0, get_or-drop at xs (0 + 1) 0, add-zero)
+
+module _ (xs : List ℕ) (at : ℕ) where
+  -- too few bytes for a length, too few for a body, enough
+  pub cut_few : length xs - at < 2 → frame_at xs at ≡ None
+  cut_few h = rw (lt-leb 2 (length (drop at xs)) (rw length-drop h))
+
+  pub cut_short : {n : ℕ} → n ≡ word xs at → length xs - at - 2 < n → frame_at xs at ≡ None
+  cut_short {n} e h =
+      let short : length (drop at xs) < 2 + body_length (drop at xs) = rw (length-drop, word-drop xs at, ← e) (omega arith) in
+      picked (leb 2 (length (drop at xs))) (Some (frame (at + 2) (at + 2 + body_length (drop at xs)))) (lt-leb (2 + body_length (drop at xs)) (length (drop at xs)) short)
+    where
+      picked : (a : Bool) {b : Bool} (f : Option Frame) → b ≡ false → cond (a && b) f None ≡ None
+      picked true f e = rw e
+      picked false f e = refl
+
+  pub whole-there : {n : ℕ} → n ≡ word xs at → 2 ≤ length xs - at → n ≤ length xs - at - 2 → frame_at xs at ≡ Some (frame (at + 2) (at + 2 + n))
+  whole-there {n} e h l =
+      rw (
+        le-leb 2 (length (drop at xs)) (rw length-drop h),
+        word-drop xs at,
+        ← e,
+        le-leb (2 + n) (length (drop at xs)) (rw length-drop (omega arith)),
+      )
 
 -- what is known where a whole frame was found
 pub record WholeAt (xs : List ℕ) (at start end : ℕ) : Type 0 where

@@ -17,9 +17,9 @@ ghost use Rattle.lines.specs.Code.{shown_segment, shown_mask, front_text, end_te
 use crate::{bracket, broadcast};
 use bodies::Body;
 use branches::Mode;
+use names::Arm;
 use names::labels::{LabelTable, put_label};
 use names::registers::{RegisterTable, put_register};
-use names::{Arm, Tables};
 use operands::{BranchWord, Label, Operand, Shown};
 use places::{Mask, Place, Plan, Segment};
 
@@ -156,7 +156,9 @@ impl Manner {
         }
     }
 
-    // What stands before memory: its label and the segment that is shown.
+    // What stands before memory: its label and the segment that is shown. Joined to its callers, for a call takes what it is of through
+    // memory.
+    #[inline(always)]
     fn put_front(self, buf: &mut [u8], at: usize, labels: &LabelTable, own: u8) -> usize
         requires { Room buf.old at (front_text self.label (shown_segment self.segment own)) }
         ensures { Put buf.old at (front_text self.label (shown_segment self.segment own)) result buf.new }
@@ -166,6 +168,7 @@ impl Manner {
     }
 
     // What stands after an absolute: the mask that is shown and the broadcast.
+    #[inline(always)]
     fn put_end(self, buf: &mut [u8], at: usize, registers: &RegisterTable, body: &Body) -> usize
         requires { Room buf.old at (end_text (shown_mask self.mask 0 (register_of (operand_at (fields_by body.now.front body.now.rest.now) 1))) self.broadcast) }
         ensures { Put buf.old at (end_text (shown_mask self.mask 0 (register_of (operand_at (fields_by body.now.front body.now.rest.now) 1))) self.broadcast) result buf.new }
@@ -178,7 +181,8 @@ impl Manner {
         self,
         buf: &mut [u8],
         at: usize,
-        tables: &Tables,
+        registers: &RegisterTable,
+        labels: &LabelTable,
         body: &Body,
         operand: Operand,
     ) -> usize
@@ -187,26 +191,26 @@ impl Manner {
     {
         match operand {
             Operand::Absent => at,
-            Operand::Register { reg, .. } => put_name(buf, at, &tables.registers, self.short, reg),
+            Operand::Register { reg, .. } => put_name(buf, at, registers, self.short, reg),
             Operand::Imm { value, .. } => numerals::numeral::put_numeral(buf, at, value),
             Operand::Absolute16 { segment, address } => {
-                let next = self.put_front(buf, at, &tables.labels, segment);
+                let next = self.put_front(buf, at, labels, segment);
                 let next = put_word(buf, next, address);
-                self.put_end(buf, next, &tables.registers, body)
+                self.put_end(buf, next, registers, body)
             }
             Operand::Absolute32 { segment, address } => {
-                let next = self.put_front(buf, at, &tables.labels, segment);
+                let next = self.put_front(buf, at, labels, segment);
                 let next = put_dword(buf, next, address);
-                self.put_end(buf, next, &tables.registers, body)
+                self.put_end(buf, next, registers, body)
             }
             Operand::Memory {
                 segment,
                 address,
                 mask,
             } => {
-                let next = self.put_front(buf, at, &tables.labels, segment);
+                let next = self.put_front(buf, at, labels, segment);
                 let mask = self.shown_mask(body, mask);
-                let next = bracket::put_masked(buf, next, &tables.registers, address, mask);
+                let next = bracket::put_masked(buf, next, registers, address, mask);
                 broadcast::put_broadcast(buf, next, self.broadcast)
             }
         }
@@ -217,7 +221,8 @@ impl Manner {
 fn put_place(
     buf: &mut [u8],
     at: usize,
-    tables: &Tables,
+    registers: &RegisterTable,
+    labels: &LabelTable,
     body: &Body,
     mode: Mode,
     arm: Arm,
@@ -229,7 +234,7 @@ fn put_place(
 {
     match place {
         Place::Nothing => at,
-        Place::Register(reg) => put_register(buf, at, &tables.registers, reg),
+        Place::Register(reg) => put_register(buf, at, registers, reg),
         Place::Branch => put_branch(buf, at, body, mode, arm),
         Place::Operand {
             k,
@@ -246,7 +251,7 @@ fn put_place(
                 mask,
                 broadcast,
             };
-            manner.put_operand(buf, at, tables, body, body.operand_at(k))
+            manner.put_operand(buf, at, registers, labels, body, body.operand_at(k))
         }
     }
 }
@@ -279,7 +284,8 @@ fn put_separator(buf: &mut [u8], at: usize, k: usize) -> usize
 pub fn put_places(
     buf: &mut [u8],
     at: usize,
-    tables: &Tables,
+    registers: &RegisterTable,
+    labels: &LabelTable,
     body: &Body,
     mode: Mode,
     arm: Arm,
@@ -297,7 +303,7 @@ pub fn put_places(
             return next;
         }
         next = put_separator(buf, next, k);
-        next = put_place(buf, next, tables, body, mode, arm, *place);
+        next = put_place(buf, next, registers, labels, body, mode, arm, *place);
     }
     next
 }

@@ -12,7 +12,10 @@ ghost use Rattle.lines.specs.Text.{tail_word, line_by, line_text};
 use crate::{heads, place};
 use bodies::Body;
 use branches::Mode;
-use names::{Arm, Tables};
+use names::Arm;
+use names::labels::LabelTable;
+use names::opcodes::MnemonicTable;
+use names::registers::RegisterTable;
 use operands::Tail;
 use places::Plan;
 
@@ -34,7 +37,9 @@ fn put_tail_word(buf: &mut [u8], at: usize, tail: Tail) -> usize
 pub fn put_line(
     buf: &mut [u8],
     at: usize,
-    tables: &Tables,
+    mnemonics: &MnemonicTable,
+    registers: &RegisterTable,
+    labels: &LabelTable,
     body: &Body,
     mode: Mode,
     arm: Arm,
@@ -47,8 +52,8 @@ pub fn put_line(
 {
     let opcode = body.front.opcode();
     let flags = body.front.flags;
-    let next = heads::put_head(buf, at, &tables.mnemonics, arm, opcode, flags);
-    let next = place::put_places(buf, next, tables, body, mode, arm, plan);
+    let next = heads::put_head(buf, at, mnemonics, arm, opcode, flags);
+    let next = place::put_places(buf, next, registers, labels, body, mode, arm, plan);
     let tail = plan.tail;
     put_tail_word(buf, next, tail)
 }

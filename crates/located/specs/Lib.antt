@@ -1,4 +1,4 @@
--- A listing with the place of each record. Definitions only: the laws are in proofs/.
+-- A listing with the place of each record. Definitions only: the laws are in proofs/, but for those that an `impl` cites (Ways).
 pub mod Parts
 pub mod Located
 pub mod Pass

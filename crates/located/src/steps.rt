@@ -9,7 +9,7 @@ use names::Tables;
 use records::Asked;
 use records::judge::in_version;
 use streams::Step;
-use streams::stream::refused_by;
+use streams::stream::refused_for;
 
 fn step_version(input: &[u8], asked: Asked, text: &mut [u8], out: usize) -> Step<Stage>
     requires { out + longest_part ≤ length text.old }
@@ -106,7 +106,7 @@ fn step_frame(
         used: end,
         out: placed.out,
         records: 1,
-        refused: refused_by(placed.refused),
+        refused: refused_for(placed.refused),
     }
 }
 

@@ -3,16 +3,19 @@
 -- Assumes nothing.
 use mathlib.Core.Path.{◌≡◌, refl, ap, ◌∙◌}
 use mathlib.Core.Logic.{inl, inr}
-use mathlib.Core.Bool.{Bool, true, false, cond, beq, ◌&&◌}
+use mathlib.Core.Bool.{Bool, true, false, cond, beq, not, ◌&&◌}
 use mathlib.Core.List.{List, [], ◌∷◌, map}
 use Prim.Native.Nat.{ℕ, zero, suc}
-use lib.Dec.{T}
+use lib.Dec.{T, T_not, eqb}
+use borrow.Author.Tests.{eq-eqb}
 use store.Enc.{and_l, and_r}
 use types.Run.{OneOf}
 use native.Mathlib.Omega.{arith}
 use denote.RattleType.{RattleType}
 use denote.Enum.Enum.{Sum, tag as tag_in}
 use denote.Enum.Declared.{tag_of}
+use Rattle.text.specs.Words.{every}
+use Rattle.text.proofs.Tables.{both_left, both_right}
 use Rattle.names.specs.contracts.Arm.{the_type}
 use Rattle.names.specs.declared.Arm.{Arm}
 use Rattle.names.specs.declared.Arm.TheVariants as arm
@@ -93,3 +96,12 @@ pub of_group :
     OneOf (map tag xs) (tag arm) →
     f arm ≡ v
 of_group f v xs arm t o = at_group f v xs arm (each f v xs t) o
+
+-- a tag that is none of some tags
+pub not_one_of : (n : ℕ) (ks : List ℕ) → T (every (λ (k : ℕ). not (eqb n k)) ks) → OneOf ks n → ⊥
+not_one_of n [] t o = o
+not_one_of n (k ∷ []) t e = T_not (eqb n k) (both_left (not (eqb n k)) true t) (rw (eq-eqb n k e) tt)
+not_one_of n (k ∷ (l ∷ ls)) t (inl e) =
+    T_not (eqb n k) (both_left (not (eqb n k)) (every (λ (k : ℕ). not (eqb n k)) (l ∷ ls)) t) (rw (eq-eqb n k e) tt)
+not_one_of n (k ∷ (l ∷ ls)) t (inr o) =
+    not_one_of n (l ∷ ls) (both_right (not (eqb n k)) (every (λ (k : ℕ). not (eqb n k)) (l ∷ ls)) t) o

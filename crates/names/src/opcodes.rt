@@ -39,7 +39,7 @@ pub fn mnemonics() -> MnemonicTable {
 }
 
 // The arm of each opcode.
-#[derive(Drop)]
+#[derive(Clone, Copy)]
 pub struct Arms {
     by_opcode: [Arm; OPCODES],
     ghost are_arms: { by_opcode ≡ arms },

@@ -3,3 +3,4 @@ pub mod Texts
 pub mod Examples
 pub mod Short
 pub mod Tens
+pub mod Signed

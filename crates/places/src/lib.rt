@@ -2,6 +2,8 @@
 // the record's body.
 #![tactic(auto)]
 
+pub mod labels;
+
 use operands::{Label, Tail};
 
 // How a place shows the segment of its operand.

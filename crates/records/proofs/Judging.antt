@@ -18,11 +18,11 @@ use Rattle.answers.proofs.Firsts.{never-zero_by, answer_below, answer_not, none_
 use Rattle.frames.specs.Frames.{known_version}
 use Rattle.bodies.specs.Body.{count_of}
 use Rattle.bodies.specs.Refusals.{length_refused, field_refused}
-use Rattle.bodies.specs.Code.{rest_at, front_of, fields_by, Whole, body_answer}
+use Rattle.bodies.specs.Code.{rest_at, front_of, fields_by, instruction_by, Whole, body_answer}
 use Rattle.bodies.specs.declared.Front.{Front}
 use Rattle.bodies.proofs.OldAccepted.{nothing_refused}
 use Rattle.bodies.specs.Versions.{fields, start_of, record_of}
-use Rattle.bodies.proofs.Versions.{fields_by_lem}
+use Rattle.bodies.proofs.Versions.{fields_by_lem, rest_within}
 use Rattle.bodies.specs.Decoding.{instruction_of}
 use Rattle.bodies.proofs.Lengths.{whole}
 use Rattle.bodies.proofs.Picks.{neither_left, neither_right}
@@ -164,6 +164,10 @@ parts_are version body {at} a h e =
     let all : take (length body - at) (drop at body) ≡ drop at body = ap (λ (n : ℕ). take n (drop at body)) (sym (length-drop at body)) ∙ take-length (drop at body) in
     rw (all, e, a) (sym (fields_by_lem version body (rw a at h)))
 
+-- and so is its record
+pub record_is : (version : ℕ) (body : List ℕ) {at : ℕ} {front : Front} → at ≡ rest_at version → at ≤ length body → front ≡ front_of version body → record_of version body ≡ instruction_by front (take (length body - at) (drop at body))
+record_is version body a h e = rw (parts_are version body a h e, ap (λ (f : Front). f.start) e)
+
 -- so what the code judges of the two is what is judged of the body
 module _ (asked : Asked) (body : List ℕ) {at : ℕ} {front : Front} (m : asked_refused asked ≡ false) (a : at ≡ rest_at asked.version) (h : at ≤ length body) (e : front ≡ front_of asked.version body) where
   abbrev rest : List ℕ
@@ -213,6 +217,10 @@ unrefused asked body e =
       held = whole (fields_of asked body) n.1.0;
       few = few_counted (fields_of asked body) n.1.1.0;
     }
+
+-- an accepted record holds its rest
+pub rest_held : {asked : Asked} {body : List ℕ} → Unrefused asked body → rest_at asked.version ≤ length body
+rest_held {asked} {body} k = rest_within asked.version body k.held.fixed
 
 -- the plan of an accepted record shows its operands from the left
 pub plan_from_the_left :

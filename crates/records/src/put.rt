@@ -64,7 +64,9 @@ pub fn put_record(
             let next = put_line(
                 text,
                 at,
-                tables,
+                &tables.mnemonics,
+                &tables.registers,
+                &tables.labels,
                 &record.body,
                 judge::mode_of(asked),
                 record.arm,

@@ -3,10 +3,10 @@
 // records with their places (`locate`), and in crate `two_files` `compared::pass::pass`.
 #![tactic(auto)]
 
-ghost use Rattle.std.specs.Prelude.{◌≡◌, ◌+◌, ◌-◌, ◌≤◌, ◌<◌, length, take, drop, IfOk};
+ghost use Rattle.std.specs.Prelude.{◌≡◌, ◌+◌, ◌-◌, ◌≤◌, ◌<◌, true, false, length, take, drop, IfOk};
 ghost use Rattle.lines.specs.Text.{longest_line};
 ghost use Rattle.bodies.specs.Refusals.{longest_body};
-ghost use Rattle.streams.specs.Stream.{Alive};
+ghost use Rattle.streams.specs.Stream.{Alive, begun_of};
 ghost use Rattle.streams.specs.Pass.{Passes};
 ghost use Rattle.stdio.specs.Lines.{few_held};
 
@@ -33,7 +33,7 @@ pub struct Held {
 impl Held {
     // Nothing yet.
     pub fn nothing() -> Self
-        ensures { (result.from ≡ 0) × (result.have ≡ 0) }
+        ensures { (result.from ≡ 0) × ((result.have ≡ 0) × (result.ended ≡ false)) }
     {
         Held {
             from: 0,
@@ -51,6 +51,17 @@ impl Held {
             from: self.from + used,
             have: self.have,
             ended: self.ended,
+        }
+    }
+
+    // They moved to the front, and no more come.
+    fn at_the_front(self) -> Self
+        ensures { (result.from ≡ 0) × ((result.have ≡ self.have - self.from) × (result.ended ≡ true)) }
+    {
+        Held {
+            from: 0,
+            have: self.have - self.from,
+            ended: true,
         }
     }
 }
@@ -116,6 +127,8 @@ impl Lister for Stage {
     ) -> Passed<Self> {
         pass(tables, self, input, ended, asked, text)
     }
+
+    ghost begun_by = { begun_of };
 
     fn begun(self) -> usize {
         begun(self)

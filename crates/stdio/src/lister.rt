@@ -1,5 +1,5 @@
 // A run over any listing that arrives in parts: read, pass, write.
-ghost use Rattle.std.specs.Prelude.{◌≡◌, Bool, List, ℕ, ◌-◌, ◌≤◌, ◌<◌, length};
+ghost use Rattle.std.specs.Prelude.{◌≡◌, Bool, List, ℕ, ◌-◌, ◌≤◌, ◌<◌, length, take, drop};
 ghost use Rattle.records.specs.declared.Asked.{Asked as Asking};
 ghost use Rattle.streams.specs.declared.Next.TheVariants.{Read as Reads};
 ghost use Rattle.streams.specs.declared.Passed.{Passed as Pass};
@@ -37,8 +37,11 @@ pub trait Lister: Copy {
         ensures { passes asked self input.now ended result text.new };
 
     // How many bytes of a frame that has begun were used.
+    ghost begun_by: { Self → ℕ };
+
     fn begun(self) -> usize
-        requires { alive self };
+        requires { alive self }
+        ensures { result ≡ begun_by self };
 
     // What it says lies within the text, and what it uses within the bytes that are held.
     ghost fits: { (asked : Asking) (stage : Self) (held : List ℕ) (ended : Bool) (r : Pass Self) (after : List ℕ) → passes asked stage held ended r after → r.out ≤ length after };
@@ -88,6 +91,61 @@ pub struct State<S> {
     pub end: Option<End>,
 }
 
+// A pass, and whether its text could be written.
+#[derive(Clone, Copy)]
+pub struct Turn<S> {
+    pub passed: Passed<S>,
+    pub written: bool,
+}
+
+// One pass over the bytes that are held, and its text on standard output.
+fn turn_of<S: Lister, R: Print>(
+    rt: &R,
+    tables: &Tables,
+    stage: S,
+    input: &[u8],
+    ended: bool,
+    asked: Asked,
+    text: &mut [u8],
+) -> Turn<S>
+    requires alive { S.alive stage }
+    requires room { S.room ≤ length text.old }
+    ensures passes { S.passes asked stage input.now ended result.passed text.new }
+    ensures text_len_unchanged { length text.new ≡ length text.old }
+{
+    let passed = stage.pass(tables, input, ended, asked, text);
+    let written = rt.write_all(&text[..passed.out]).is_ok();
+    Turn { passed, written }
+}
+
+// More bytes. Where they cannot be read, those that are held are at the front, and no more come.
+fn refilled<S: Lister, F: Read>(
+    file: &mut F,
+    stage: S,
+    held: Held,
+    tally: Tally,
+    input: &mut [u8],
+) -> State<S>
+    requires alive { S.alive stage }
+    requires within { held.have ≤ length input.old }
+    requires room { held.have - held.from < length input.old }
+    ensures alive { S.alive result.stage }
+    ensures from_value { (result.held.from ≡ 0) × ((held.have - held.from ≤ result.held.have) × (result.held.have ≤ length input.old)) }
+    ensures input_len_unchanged { length input.new ≡ length input.old }
+    ensures input_after { take (held.have - held.from) input.new ≡ drop held.from (take held.have input.old) }
+{
+    let (held, end) = match refill(file, held, input) {
+        Ok(more) => (more, None),
+        Err(_) => (held.at_the_front(), Some(End::ReadFailed)),
+    };
+    State {
+        stage,
+        held,
+        tally,
+        end,
+    }
+}
+
 // A pass over the bytes that are held, its text on standard output, and more bytes where it needs them.
 fn round_of<S: Lister, R: Print, F: Read>(
     rt: &R,
@@ -108,28 +166,26 @@ fn round_of<S: Lister, R: Print, F: Read>(
     ensures text_len_unchanged { length text.new ≡ length text.old }
 {
     let held = state.held;
-    let passed = state.stage.pass(
+    let turn = turn_of(
+        rt,
         tables,
+        state.stage,
         &input[held.from..held.have],
         held.ended,
         asked,
         text,
     );
-    let written = rt.write_all(&text[..passed.out]).is_ok();
+    let passed = turn.passed;
     let stage = passed.stage;
     let tally = state.tally.and(&passed);
     let held = held.after(passed.used);
-    let (held, end) = match passed.next {
-        _ if !written => (held, Some(End::WriteFailed)),
-        Next::Full => (held, None),
-        Next::Read => match refill(file, held, input) {
-            Ok(more) => (more, None),
-            // The run ends here, so where the bytes lie now is not asked again.
-            Err(_) => (held, Some(End::ReadFailed)),
-        },
-        Next::Whole => (held, Some(End::Whole)),
-        Next::Cut => (held, Some(End::Cut)),
-        Next::Unknown => (held, Some(End::Unknown)),
+    let end = match passed.next {
+        _ if !turn.written => Some(End::WriteFailed),
+        Next::Full => None,
+        Next::Read => return refilled(file, stage, held, tally, input),
+        Next::Whole => Some(End::Whole),
+        Next::Cut => Some(End::Cut),
+        Next::Unknown => Some(End::Unknown),
     };
     State {
         stage,

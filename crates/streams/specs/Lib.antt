@@ -1,4 +1,4 @@
--- A listing that arrives in parts. Definitions only: the laws are in proofs/.
+-- A listing that arrives in parts. Definitions only: the laws are in proofs/, but for those that an `impl` cites (Ways).
 pub mod Stream
 pub mod Pass
 pub mod Stages

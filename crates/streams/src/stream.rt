@@ -95,13 +95,20 @@ fn step_skip(
     }
 }
 
-// A frame is refused, or not, as its record is.
-pub fn refused_by(refused: Option<Reason>) -> usize
+// A frame is refused, or not, as its record's answer says.
+pub fn refused_by(number: u8) -> usize
+    ensures { result ≡ refused_by number }
+{
+    if 0 < number { 1 } else { 0 }
+}
+
+// The same of the reason, where there is one.
+pub fn refused_for(refused: Option<Reason>) -> usize
     ensures { result ≡ refused_by (answer_as refused) }
 {
     match refused {
-        None => 0,
-        Some(_) => 1,
+        None => refused_by(0),
+        Some(reason) => refused_by(reason.number()),
     }
 }
 
@@ -162,7 +169,7 @@ fn step_frame(
         used: end,
         out: placed.out,
         records: 1,
-        refused: refused_by(placed.refused),
+        refused: refused_for(placed.refused),
     }
 }
 

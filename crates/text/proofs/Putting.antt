@@ -5,7 +5,8 @@ use mathlib.Core.List.{List, [], ◌∷◌, ◌++◌}
 use Prim.Native.Nat.{ℕ, ◌+◌, ◌≤◌}
 use native.Mathlib.Nat.{add-zero}
 use native.Mathlib.Omega.{arith}
-use lib.ListN.{length, set, length-append}
+use lib.ListN.{length, set, take, length-append}
+use lib.Seq.{take-length}
 use Rattle.text.specs.Write.{write}
 use Rattle.text.specs.Code.{Room, Put}
 use Rattle.text.proofs.Writing.{write_none, write_byte, length-write, write-write}
@@ -38,6 +39,11 @@ put_none {xs} {at} = record { next = sym (add-zero at); text = sym (write_none x
 -- one byte was stored
 pub put_stored : {xs : List ℕ} {at b : ℕ} → Room xs at (b ∷ []) → Put xs at (b ∷ []) (at + 1) (set xs at b)
 put_stored {xs} {at} {b} room = record { next = refl; text = write_byte xs at b (omega (arith, room.fits)) }
+
+-- a loop from the front has written the whole text
+pub put_whole : {xs : List ℕ} {at : ℕ} {t : List ℕ} {i : ℕ} {ys : List ℕ} → i ≡ length t → ys ≡ write xs at (take i t) → Put xs at t (at + i) ys
+put_whole {xs} {at} {t} {i} end written =
+    record { next = ap (λ (n : ℕ). at + n) end; text = written ∙ ap (write xs at) (ap (λ (n : ℕ). take n t) end ∙ take-length t) }
 
 -- room for a text, and its put, under another name of the same text
 pub room_as : {xs : List ℕ} {at : ℕ} {s t : List ℕ} → s ≡ t → Room xs at s → Room xs at t

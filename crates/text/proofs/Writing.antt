@@ -1,4 +1,4 @@
--- Laws of `write`: what a text leaves alone, two texts one behind the other, and one byte before a text that a loop writes from the end.
+-- Laws of `write`: what a text leaves alone, two texts one behind the other, and one byte more at either end of a loop.
 -- Assumes nothing.
 use mathlib.Core.Path.{◌≡◌, sym, ap, ◌∙◌}
 use mathlib.Core.List.{List, [], ◌∷◌, ◌++◌, append_assoc}
@@ -7,8 +7,8 @@ use native.Mathlib.Nat.{add_assoc, add-zero}
 use native.Mathlib.Numerals.{add-one}
 use native.Mathlib.Omega.{arith}
 use borrow.Rule.Slice.PartMut.{put_mid}
-use lib.ListN.{length, take, drop, set, length-append, length-drop, length-set, take-append-drop}
-use lib.Seq.{length-take-le, take_at, drop_at, drop-drop, drop-cons, set_split, take-set-le, drop-set-lt, get_or-set_same}
+use lib.ListN.{length, take, drop, get_or, set, length-append, length-drop, length-set, take-append-drop}
+use lib.Seq.{length-take-le, take-suc, take_at, drop_at, drop-drop, drop-cons, set_split, take-set-le, drop-set-lt, get_or-set_same}
 use Rattle.text.specs.Write.{write}
 
 -- one byte, stored
@@ -69,6 +69,12 @@ module _ (xs : List ℕ) (at : ℕ) where
         ∙ ap (λ (q : List ℕ). take at xs ++ (t ++ q)) behind
 
   module _ (s : List ℕ) (b : ℕ) (room : at + length s < length xs) where
+    -- one byte behind a text that stands already: a loop that writes from the front
+    pub write_next : set (write xs at s) (at + length s) b ≡ write xs at (s ++ (b ∷ []))
+    write_next =
+        let placed : at + length s ≤ length xs = omega arith in
+        write_byte (write xs at s) (at + length s) b (rw (length-write s placed) room) ∙ write-write s placed (b ∷ [])
+
     -- a text before a byte that stands already: a loop that writes from the last byte
     pub write_last : write (set xs (at + length s) b) at s ≡ write xs at (s ++ (b ∷ []))
     unfolding write
@@ -91,6 +97,13 @@ write_over xs at u v t room h =
     ap (λ (ys : List ℕ). write ys (at + length u) t) (sym (write-write xs at u first v))
     ∙ write_same (write xs at u) (at + length u) v (rw (length-write xs at u first) (omega (arith, length-append u v))) t h
     ∙ write-write xs at u first t
+
+-- one byte more of a text that is written from the front
+pub write_more : (xs : List ℕ) (at : ℕ) (t : List ℕ) (i : ℕ) → at + length t ≤ length xs → i < length t → set (write xs at (take i t)) (at + i) (get_or t i 0) ≡ write xs at (take (i + 1) t)
+write_more xs at t i room h =
+    let front : length (take i t) ≡ i = length-take-le i t (omega arith) in
+    let byte : take (i + 1) t ≡ take i t ++ (get_or t i 0 ∷ []) = rw add-one (take-suc t i 0 h) in
+    rw (byte, ← write_next xs at (take i t) (get_or t i 0) (rw front (omega arith)), front)
 
 -- a part of the buffer that was made the text is written
 pub write_copied : {t ys : List ℕ} (xs : List ℕ) (at : ℕ) {k : ℕ} → k ≡ length t → ys ≡ t → put_mid at k xs ys ≡ write xs at t

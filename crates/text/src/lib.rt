@@ -16,14 +16,16 @@ pub fn put_byte(buf: &mut [u8], at: usize, b: u8) -> usize
     at + 1
 }
 
-// A text at a place.
+// A text at a place, byte by byte: the copy of a part is a call of the C library's memmove where the compiler does not know its length,
+// and then each function that this is joined to keeps its registers for a call.
 pub fn put_bytes(buf: &mut [u8], at: usize, t: &[u8]) -> usize
     requires { Room buf.old at t.now }
     ensures { Put buf.old at t.now result buf.new }
 {
-    let end = at + t.len();
-    buf[at..end].copy_from_slice(t);
-    end
+    for i in 0..t.len() {
+        buf[at + i] = t[i];
+    }
+    at + t.len()
 }
 
 // A text at a place, where it is called for.

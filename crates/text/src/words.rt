@@ -76,7 +76,9 @@ pub fn copy<const N: usize>(buf: &mut [u8], at: usize, letters: &[u8], from: usi
     buf[at..at + N].copy_from_slice(&copied);
 }
 
-// The word at k: one of 2 to 16 letters by two copies of one size, from its first letter on and up to its last, which may overlap.
+// The word at k: one of 2 to 16 letters by two copies of one size, from its first letter on and up to its last, which may overlap. One function for
+// all who call it.
+#[inline(never)]
 pub fn put_word(buf: &mut [u8], at: usize, letters: &[u8], starts: &[u16], k: usize) -> usize
     requires stands { Stands letters.now starts.now k }
     requires room { Room buf.old at (word_at letters.now starts.now k) }

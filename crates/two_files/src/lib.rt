@@ -5,10 +5,11 @@
 ghost use Rattle.std.specs.Prelude.{◌≡◌, ◌≤◌, length};
 ghost use Rattle.compared.specs.Text.{longest_event};
 ghost use Rattle.cursors.specs.Longest.{longest_frame};
+ghost use Rattle.compared.specs.Pass.{Passes};
 
 use compared::pass::pass;
 use compared::same::same_bytes;
-use compared::{Next, Stage};
+use compared::{Next, Passed, Stage};
 use names::Tables;
 use records::Asked;
 use std::env::{Env, FillError};
@@ -45,6 +46,43 @@ fn verdict_at(stage: Stage) -> Option<Verdict> {
     }
 }
 
+// A pass, and whether its text could be written.
+#[derive(Clone, Copy)]
+pub struct Turn {
+    pub passed: Passed,
+    pub written: bool,
+}
+
+// One pass over the bytes that are held on both sides, and its text on standard output.
+fn turn_of<R: Print>(
+    rt: &R,
+    tables: &Tables,
+    stage: Stage,
+    first: &[u8],
+    first_ended: bool,
+    second: &[u8],
+    second_ended: bool,
+    asked: Asked,
+    text: &mut [u8],
+) -> Turn
+    requires { longest_event ≤ length text.old }
+    ensures passes { Passes asked stage first.now second.now first_ended second_ended result.passed text.new }
+    ensures text_len_unchanged { length text.new ≡ length text.old }
+{
+    let passed = pass(
+        tables,
+        stage,
+        first,
+        first_ended,
+        second,
+        second_ended,
+        asked,
+        text,
+    );
+    let written = rt.write_all(&text[..passed.out]).is_ok();
+    Turn { passed, written }
+}
+
 // A pass over the bytes that are held on both sides, its text on standard output, and more bytes of the file that it wants them of.
 fn round_of<R: Print, F: Read>(
     rt: &R,
@@ -69,7 +107,8 @@ fn round_of<R: Print, F: Read>(
     ensures text_len_unchanged { length text.new ≡ length text.old }
 {
     let (one, other) = (state.first, state.second);
-    let passed = pass(
+    let turn = turn_of(
+        rt,
         tables,
         state.stage,
         &first[one.from..one.have],
@@ -79,11 +118,11 @@ fn round_of<R: Print, F: Read>(
         asked,
         text,
     );
-    let written = rt.write_all(&text[..passed.out]).is_ok();
+    let passed = turn.passed;
     let one = one.after(passed.first);
     let other = other.after(passed.second);
     let (one, other, verdict) = match passed.next {
-        _ if !written => (one, other, Some(Verdict::Unwritten)),
+        _ if !turn.written => (one, other, Some(Verdict::Unwritten)),
         Next::On => (one, other, None),
         Next::First => match refill(first_file, one, first) {
             Ok(more) => (more, other, None),

@@ -22,4 +22,4 @@ returns c = let n = c.word_at.result in
     let xs = c.args.input.now in
     let sized = length-take-le (2 + n - 2) (drop 2 xs) (omega (arith, length-drop 2 xs, c.if-input-end.false)) in
     let short = part_short c.in_version.result c.args.number c.args.offset (take (2 + n - 2) (drop 2 xs)) c.ranges.number.fits c.ranges.offset.fits (omega (arith, sized, few)) in
-    steps_whole c.args.asked c.args.number c.args.offset c.args.version xs (2 + n - 2) c.in_version.ensures c.word_at.ensures c.if-input-end.false (omega arith) refl refl short c.put_part-placed.ensures c.refused_by.ensures
+    steps_whole c.args.asked c.args.number c.args.offset c.args.version xs (2 + n - 2) c.in_version.ensures c.word_at.ensures c.if-input-end.false (omega arith) refl refl short c.put_part-placed.ensures c.refused_for.ensures

@@ -20,4 +20,4 @@ pub put_record-placed-requires : goal.put_record-placed-requires
 put_record-placed-requires c = let n = c.word_at-size.result in record { fits = omega (arith, c.requires.longest_line_in_bounds, listed_short c.in_version.result (take (2 + n - 2) (drop 2 c.args.input.now))) }
 
 pub returns : goal.returns
-returns c = whole_took c.args.version c.args.asked c.args.input.now (2 + c.word_at-size.result - 2) c.in_version.ensures c.word_at-size.ensures c.if-input-lt2.false c.if-size-gt-LONGEST_BODY.false c.if-input-end.false (omega arith) c.put_record-placed.ensures c.refused_by.ensures
+returns c = whole_took c.args.version c.args.asked c.args.input.now (2 + c.word_at-size.result - 2) c.in_version.ensures c.word_at-size.ensures c.if-input-lt2.false c.if-size-gt-LONGEST_BODY.false c.if-input-end.false (omega arith) c.put_record-placed.ensures c.refused_for.ensures
