@@ -10,7 +10,7 @@ ghost use Rattle.streams.specs.Stream.{Alive, begun_of};
 ghost use Rattle.streams.specs.Pass.{Passes};
 ghost use Rattle.stdio.specs.Lines.{few_held};
 
-use lister::{Lister, run_from};
+use lister::{Begun, Lister, run_from};
 use names::Tables;
 use records::Asked;
 use std::io::{self, Input, Read};
@@ -20,6 +20,8 @@ use streams::{Passed, Stage};
 
 pub mod lister;
 pub mod locate;
+#[cfg(test)]
+mod tests;
 
 // The bytes that are held of a buffer, from `from` up to `have`, and whether the input has ended.
 #[derive(Clone, Copy)]
@@ -128,10 +130,11 @@ impl Lister for Stage {
         pass(tables, self, input, ended, asked, text)
     }
 
-    ghost begun_by = { begun_of };
-
-    fn begun(self) -> usize {
-        begun(self)
+    fn begun(self) -> usize
+        requires { Alive self }
+        ensures { result ≡ begun_of self }
+    {
+        self.bytes_begun()
     }
 
     ghost fits = { λ asked stage held ended r after p. p.fits };
@@ -141,6 +144,14 @@ impl Lister for Stage {
     ghost lives = { λ asked stage held ended r after p. p.alive };
 
     ghost few = { λ asked stage held ended r after p reads. few_held p reads };
+}
+
+impl Begun for Stage {
+    ghost begun_by = { begun_of };
+
+    fn bytes_begun(self) -> usize {
+        begun(self)
+    }
 }
 
 // The lines of the listing on standard input.

@@ -37,11 +37,8 @@ pub trait Lister: Copy {
         ensures { passes asked self input.now ended result text.new };
 
     // How many bytes of a frame that has begun were used.
-    ghost begun_by: { Self → ℕ };
-
     fn begun(self) -> usize
-        requires { alive self }
-        ensures { result ≡ begun_by self };
+        requires { alive self };
 
     // What it says lies within the text, and what it uses within the bytes that are held.
     ghost fits: { (asked : Asking) (stage : Self) (held : List ℕ) (ended : Bool) (r : Pass Self) (after : List ℕ) → passes asked stage held ended r after → r.out ≤ length after };
@@ -53,6 +50,15 @@ pub trait Lister: Copy {
 
     // Where more bytes are to be read, few are held.
     ghost few: { (asked : Asking) (stage : Self) (held : List ℕ) (ended : Bool) (r : Pass Self) (after : List ℕ) → passes asked stage held ended r after → r.next ≡ Reads → length held - r.used < most };
+}
+
+// Stages of which it is known how many bytes of a frame that has begun were used, as of those of our programs.
+pub trait Begun: Lister {
+    ghost begun_by: { Self → ℕ };
+
+    fn bytes_begun(self) -> usize
+        requires { Self.alive self }
+        ensures { result ≡ begun_by self };
 }
 
 // What was counted since the start: whole frames, those that are refused, and bytes that were used. A count that no number holds stays at

@@ -6,7 +6,7 @@ ghost use Rattle.located.specs.Parts.{longest_part};
 ghost use Rattle.stdio.specs.Locating.{few_held};
 
 use crate::input_buffer;
-use crate::lister::{Lister, run_from};
+use crate::lister::{Begun, Lister, run_from};
 use located::Stage;
 use located::pass::pass;
 use names::Tables;
@@ -34,10 +34,10 @@ impl Lister for Stage {
         pass(tables, self, input, ended, asked, text)
     }
 
-    ghost begun_by = { λ _. 0 };
-
-    fn begun(self) -> usize {
-        0
+    fn begun(self) -> usize
+        ensures { result ≡ 0 }
+    {
+        self.bytes_begun()
     }
 
     ghost fits = { λ asked stage held ended r after p. p.fits };
@@ -47,6 +47,15 @@ impl Lister for Stage {
     ghost lives = { λ asked stage held ended r after p. tt };
 
     ghost few = { λ asked stage held ended r after p reads. few_held p reads };
+}
+
+// A frame is held whole, so none has begun.
+impl Begun for Stage {
+    ghost begun_by = { λ _. 0 };
+
+    fn bytes_begun(self) -> usize {
+        0
+    }
 }
 
 // For what is written: the text of one record at least.
