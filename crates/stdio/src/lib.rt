@@ -130,11 +130,10 @@ impl Lister for Stage {
         pass(tables, self, input, ended, asked, text)
     }
 
-    fn begun(self) -> usize
-        requires { Alive self }
-        ensures { result ≡ begun_of self }
-    {
-        self.bytes_begun()
+    ghost begun_gives = { λ stage n. n ≡ begun_of stage };
+
+    fn begun(self) -> usize {
+        begun(self)
     }
 
     ghost fits = { λ asked stage held ended r after p. p.fits };
@@ -149,9 +148,7 @@ impl Lister for Stage {
 impl Begun for Stage {
     ghost begun_by = { begun_of };
 
-    fn bytes_begun(self) -> usize {
-        begun(self)
-    }
+    ghost begun_is = { λ stage n gives. gives };
 }
 
 // The lines of the listing on standard input.

@@ -36,9 +36,12 @@ pub trait Lister: Copy {
         requires room { room ≤ length text.old }
         ensures { passes asked self input.now ended result text.new };
 
-    // How many bytes of a frame that has begun were used.
+    // How many bytes of a frame that has begun were used. An `impl` need not say what holds of the number.
+    ghost begun_gives: { Self → ℕ → Type 0 } = { λ _ _. Unit {0} };
+
     fn begun(self) -> usize
-        requires { alive self };
+        requires { alive self }
+        ensures { begun_gives self result };
 
     // What it says lies within the text, and what it uses within the bytes that are held.
     ghost fits: { (asked : Asking) (stage : Self) (held : List ℕ) (ended : Bool) (r : Pass Self) (after : List ℕ) → passes asked stage held ended r after → r.out ≤ length after };
@@ -52,13 +55,11 @@ pub trait Lister: Copy {
     ghost few: { (asked : Asking) (stage : Self) (held : List ℕ) (ended : Bool) (r : Pass Self) (after : List ℕ) → passes asked stage held ended r after → r.next ≡ Reads → length held - r.used < most };
 }
 
-// Stages of which it is known how many bytes of a frame that has begun were used, as of those of our programs.
+// Stages that have one number each, which `begun` returns, as those of our programs have.
 pub trait Begun: Lister {
     ghost begun_by: { Self → ℕ };
 
-    fn bytes_begun(self) -> usize
-        requires { Self.alive self }
-        ensures { result ≡ begun_by self };
+    ghost begun_is: { (stage : Self) (n : ℕ) → Self.begun_gives stage n → n ≡ begun_by stage };
 }
 
 // What was counted since the start: whole frames, those that are refused, and bytes that were used. A count that no number holds stays at

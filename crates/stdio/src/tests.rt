@@ -1,4 +1,4 @@
-// What a run is told of stages, also of those that somebody else brings.
+// What a run is told of a frame that has begun, and a run over stages that are not ours.
 #![tactic(auto)]
 
 ghost use Rattle.std.specs.Prelude.{◌≡◌, ◌-◌, ◌≤◌, ◌<◌, length};
@@ -9,8 +9,7 @@ use names::Tables;
 use records::Asked;
 use streams::{Next, Passed, Stage};
 
-// Stages of somebody else's, whose listing is cut after so many bytes of a frame. Nothing is known of what has begun, and nothing is
-// to be proved of it.
+// Stages that somebody else brings: nothing is said of what `begun` returns.
 #[derive(Clone, Copy)]
 struct Lone(usize);
 
@@ -54,7 +53,6 @@ impl Lister for Lone {
     ghost few = { λ asked stage held ended r after p reads. p.1.1 reads };
 }
 
-// What a run is told of a frame that has begun.
 #[test]
 fn begun_of_stages(rt: HostRuntime) {
     let skipping = Stage::Skip {
