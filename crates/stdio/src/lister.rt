@@ -36,9 +36,10 @@ pub trait Lister: Copy {
         requires room { room ≤ length text.old }
         ensures { passes asked self input.now ended result text.new };
 
-    // How many bytes of a frame that has begun were used. An `impl` need not say what holds of the number.
+    // What is said of the number that `begun` returns: nothing, where an `impl` says nothing.
     ghost begun_gives: { Self → ℕ → Type 0 } = { λ _ _. Unit {0} };
 
+    // How many bytes of a frame that has begun were used.
     fn begun(self) -> usize
         requires { alive self }
         ensures { begun_gives self result };
@@ -55,10 +56,12 @@ pub trait Lister: Copy {
     ghost few: { (asked : Asking) (stage : Self) (held : List ℕ) (ended : Bool) (r : Pass Self) (after : List ℕ) → passes asked stage held ended r after → r.next ≡ Reads → length held - r.used < most };
 }
 
-// Stages that have one number each, which `begun` returns, as those of our programs have.
+// Stages of which that number is known, as of those of our programs.
 pub trait Begun: Lister {
+    // How many bytes of a frame that has begun were used.
     ghost begun_by: { Self → ℕ };
 
+    // It is what `begun` returns.
     ghost begun_is: { (stage : Self) (n : ℕ) → Self.begun_gives stage n → n ≡ begun_by stage };
 }
 

@@ -1,19 +1,21 @@
 // What a run is told of a frame that has begun, and a run over stages that are not ours.
-#![tactic(auto)]
-
 ghost use Rattle.std.specs.Prelude.{◌≡◌, ◌-◌, ◌≤◌, ◌<◌, length};
 ghost use Rattle.streams.specs.declared.Next.TheVariants.{Read as Reads};
 
-use crate::lister::{Lister, run_from};
+use crate::lister::{Begun, Lister, run_from};
 use names::Tables;
 use records::Asked;
+use std::cell::Cell;
 use streams::{Next, Passed, Stage};
 
-// Stages that somebody else brings: nothing is said of what `begun` returns.
+// Stages that somebody else brings, of which nothing is said of what `begun` returns: how often it was asked, and a pass made.
 #[derive(Clone, Copy)]
-struct Lone(usize);
+struct Counted<'a> {
+    passes: &'a Cell<usize>,
+    asked: &'a Cell<usize>,
+}
 
-impl Lister for Lone {
+impl Lister for Counted<'_> {
     ghost room = { 0 };
 
     ghost most = { 0 };
@@ -30,6 +32,7 @@ impl Lister for Lone {
         _asked: Asked,
         _text: &mut [u8],
     ) -> Passed<Self> {
+        self.passes.set(self.passes.get().saturating_add(1));
         Passed {
             stage: self,
             used: 0,
@@ -41,7 +44,8 @@ impl Lister for Lone {
     }
 
     fn begun(self) -> usize {
-        self.0
+        self.asked.set(self.asked.get().saturating_add(1));
+        self.asked.get()
     }
 
     ghost fits = { λ asked stage held ended r after p. p.0 };
@@ -53,20 +57,35 @@ impl Lister for Lone {
     ghost few = { λ asked stage held ended r after p reads. p.1.1 reads };
 }
 
+// One pass says that the listing is cut, so the run makes no other, and asks once where.
 #[test]
-fn begun_of_stages(rt: HostRuntime) {
+fn run_of_other_stages(rt: HostRuntime) {
+    let (passes, asked) = (Cell::new(0), Cell::new(0));
+    let start = Counted {
+        passes: &passes,
+        asked: &asked,
+    };
+    run_from(&rt, 0, start, &mut [], &mut []);
+    assert_eq!(rt; passes.get(), 1);
+    assert_eq!(rt; asked.get(), 1);
+}
+
+// What is known of the stages of a program.
+fn told<S: Begun>(stage: S) -> usize
+    requires { S.alive stage }
+    ensures { result ≡ S.begun_by stage }
+{
+    stage.begun()
+}
+
+#[test]
+fn begun_of_our_stages(rt: HostRuntime) {
     let skipping = Stage::Skip {
         left: 1000,
         size: 1550,
         version: 1,
     };
-    assert_eq!(rt; Lister::begun(skipping), 550);
-    assert_eq!(rt; Lister::begun(Stage::Version), 0);
-    assert_eq!(rt; Lister::begun(located::Stage::Version), 0);
-    assert_eq!(rt; Lone(3).begun(), 3);
-}
-
-#[test]
-fn run_of_other_stages(rt: HostRuntime) {
-    run_from(&rt, 0, Lone(3), &mut [], &mut []);
+    assert_eq!(rt; told(skipping), 550);
+    assert_eq!(rt; told(Stage::Version), 0);
+    assert_eq!(rt; told(located::Stage::Version), 0);
 }
