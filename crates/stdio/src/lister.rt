@@ -56,7 +56,7 @@ pub trait Lister: Copy {
     ghost few: { (asked : Asking) (stage : Self) (held : List ℕ) (ended : Bool) (r : Pass Self) (after : List ℕ) → passes asked stage held ended r after → r.next ≡ Reads → length held - r.used < most };
 }
 
-// Stages of which that number is known, as of those of our programs.
+// Stages of which it is known what `begun` returns, as of those of our programs.
 pub trait Begun: Lister {
     // How many bytes of a frame that has begun were used.
     ghost begun_by: { Self → ℕ };

@@ -8,10 +8,10 @@ use records::Asked;
 use std::cell::Cell;
 use streams::{Next, Passed, Stage};
 
-// Stages that somebody else brings, of which nothing is said of what `begun` returns: how often it was asked, and a pass made.
+// Stages that somebody else brings. They count the passes that are made and how often `begun` is asked; of what it returns nothing is said.
 #[derive(Clone, Copy)]
 struct Counted<'a> {
-    passes: &'a Cell<usize>,
+    made: &'a Cell<usize>,
     asked: &'a Cell<usize>,
 }
 
@@ -32,7 +32,7 @@ impl Lister for Counted<'_> {
         _asked: Asked,
         _text: &mut [u8],
     ) -> Passed<Self> {
-        self.passes.set(self.passes.get().saturating_add(1));
+        self.made.set(self.made.get().saturating_add(1));
         Passed {
             stage: self,
             used: 0,
@@ -60,13 +60,13 @@ impl Lister for Counted<'_> {
 // One pass says that the listing is cut, so the run makes no other, and asks once where.
 #[test]
 fn run_of_other_stages(rt: HostRuntime) {
-    let (passes, asked) = (Cell::new(0), Cell::new(0));
+    let (made, asked) = (Cell::new(0), Cell::new(0));
     let start = Counted {
-        passes: &passes,
+        made: &made,
         asked: &asked,
     };
     run_from(&rt, 0, start, &mut [], &mut []);
-    assert_eq!(rt; passes.get(), 1);
+    assert_eq!(rt; made.get(), 1);
     assert_eq!(rt; asked.get(), 1);
 }
 
